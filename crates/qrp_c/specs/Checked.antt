@@ -9,7 +9,7 @@ use Rattle.qrp_rules.specs.declared.rules.Rules.{Rules}
 use Rattle.qrp_check.specs.declared.fault.CheckFault.{CheckFault}
 use Rattle.qrp_check.specs.declared.fault.CheckFault.TheVariants.{C5}
 use Rattle.qrp_check.specs.declared.verdict.Fault.TheVariants.{Check}
-use Rattle.qrp_check.specs.Core.{ListsCore}
+use Rattle.core_walk.specs.Core.{ListsCore}
 use Rattle.qrp_check.specs.Proof.{Proves, IsFirstFault}
 use Rattle.qrp_check.specs.Trim.{trimmed_trace}
 use Rattle.qrp_bytes.specs.Buffers.{IsListed, IsWritten}

@@ -13,7 +13,7 @@ ghost use Rattle.qrp_c.specs.Checked.{IsCoreOf, IsRefused, IsVerdictOf, IsVerifi
 ghost use Rattle.qbf_core.specs.Truth.{IsTrueFormula};
 ghost use Rattle.qrp.specs.Derivations.{steps_at};
 ghost use Rattle.qrp.specs.Inferences.{numbers};
-ghost use Rattle.qrp_check.specs.Core.{ListsCore};
+ghost use Rattle.core_walk.specs.Core.{ListsCore};
 ghost use Rattle.qrp_check.specs.Proof.{IsFirstFault};
 ghost use Rattle.qrp_check.specs.declared.fault.CheckFault.TheVariants.{C5};
 ghost use Rattle.qbf_core.specs.WrittenLiterals.{literal_of};

@@ -4,7 +4,7 @@ use Rattle.qrp_check.proofs.Cited.{Block, Qbf, IsClosed, IsTrueFormula, Side, Cl
 use Rattle.qrp_check.proofs.Cited.{C5, Rules, side_of, Derives, Proves, IsFirstFault, ResultHolds, SetsAgree}
 use Rattle.std.specs.Prelude.{OnOk, IfErr}
 use Rattle.qbf_core.specs.Qbf.{IsWellFormed}
-use Rattle.qrp_check.specs.Followed.{IsCoreFault}
+use Rattle.qrp_check.specs.Refused.{IsCoreRefusal}
 use Rattle.qrp_check.specs.Verdict.{is_sat}
 use Rattle.qrp_check.proofs.Soundness.{soundness}
 
@@ -24,7 +24,7 @@ proves rules f sets steps outcome side r is agree derives = grind (arith, common
 
 pub refuses : {V : Type 0} (rules : Rules) (f : Qbf) (sets : List Block) (steps : List Inference) (outcome : Outcome) (side : Side)
     (r : Result V CheckFault) → side_of outcome ≡ side
-    → SetsAgree f.blocks sets → IfErr r (IsCoreFault rules side f steps) → IfErr r (λ e. e ≢ C5 → IsFirstFault rules f sets steps outcome e)
+    → SetsAgree f.blocks sets → IfErr r (IsCoreRefusal rules side f steps) → IfErr r (λ e. e ≢ C5 → IsFirstFault rules f sets steps outcome e)
 refuses rules f sets steps outcome side r is agree fault = grind (arith, common_steps)
 
 pub shows : {V : Type 0} (rules : Rules) (f : Qbf) (sets : List Block) (steps : List Inference) (outcome : Outcome) (side : Side)

@@ -7,7 +7,7 @@ use Rattle.qrp_check.proofs.Cited.{append_right}
 use Rattle.qbf_core.proofs.TruthLaws.{fewer_clauses, fewer_cubes, beside_none}
 use Rattle.qrp_check.proofs.AddedSets.{AreGood, Grown, one_grown, grown_on, initial_grows, reduct_grows}
 use Rattle.qrp_check.proofs.ParentsReduced.{resolved_grown}
-use Rattle.qrp_check.proofs.StepFaults.{need_of}
+use Rattle.core_walk.proofs.NamedSteps.{need_of}
 
 initial_of : (side : Side) (f : Qbf) (lits : List Literal) → (initial_condition side f lits).1 → IsInitial side f lits
 initial_of side f lits h = search rules

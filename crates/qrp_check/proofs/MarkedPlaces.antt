@@ -1,15 +1,8 @@
 -- The marked positions, listed from the first on.
-use Rattle.qrp_check.proofs.Cited.{◌≡◌, ℕ, ◌+◌, ◌<◌, Bool, true, false, List, [], ◌∷◌, ◌++◌, inl, inr, sym, ap, ◌∙◌, subst, length, get_or}
-use Rattle.qrp_check.proofs.Cited.{Some, arith, rules, slice_get, slice_get_within, slice_get-get_or, get_or_from_slice_get, cases_eq}
+use Rattle.qrp_check.proofs.Cited.{◌≡◌, ℕ, ◌+◌, ◌<◌, Bool, List, [], ◌∷◌, ◌++◌, inl, inr, sym, subst, length}
+use Rattle.qrp_check.proofs.Cited.{Some, arith, rules, slice_get, slice_get_within, cases_eq}
 use Rattle.qrp_check.proofs.Cited.{IsMarked, ListsMarked}
 use Rattle.qbf_core.proofs.PushedItems.{pushed_cases, pushed_old, pushed_new}
-
--- a mark that was read says whether the position is marked
-pub is_marked : (marks : List Bool) (i : ℕ) → i < length marks → get_or marks i false ≡ true → IsMarked marks i
-is_marked marks i less is = slice_get-get_or marks i false less ∙ ap Some is
-
-pub is_unmarked : (marks : List Bool) (i : ℕ) → get_or marks i false ≡ false → IsMarked marks i → ⊥
-is_unmarked marks i clear m = let f : true ≡ false = sym (get_or_from_slice_get marks i true false m) ∙ clear in cc f
 
 pub listing_none : (marks : List Bool) → ListsMarked marks 0 []
 listing_none marks = search rules

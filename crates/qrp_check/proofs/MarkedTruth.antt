@@ -8,11 +8,12 @@ use Rattle.qbf_text.specs.Stopping.{IfKnown}
 use Rattle.qrp.specs.Returns.{StopsAfterResult}
 use Rattle.qrp.specs.Returns as traces
 use Rattle.qrp_check.specs.Checked.{SourceCall, IsChecked, IsCheckedOf, IsTruthOf}
-use Rattle.qrp_check.specs.Marks.{MarksCore}
+use Rattle.core_walk.specs.Marks.{MarksCore}
 use Rattle.qrp_check.specs.Proof.{IsProof}
 use Rattle.qrp_check.specs.Verdict.{is_sat, StopsAfterTrace}
 use Rattle.qdimacs.specs.Reading as formulas
-use Rattle.qrp_check.proofs.MarkedPlaces.{is_marked, is_unmarked, listing_none, listing_skip, listing_push}
+use Rattle.core_walk.proofs.MarkedPlaces.{is_marked, is_unmarked}
+use Rattle.qrp_check.proofs.MarkedPlaces.{listing_none, listing_skip, listing_push}
 
 -- a list of the marked positions before i
 record Listed (marks : List Bool) (i : ℕ) : Type 0 where

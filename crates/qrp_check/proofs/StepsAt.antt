@@ -10,7 +10,7 @@ use Rattle.std.proofs.lemmas.List.Elements.{filter_map-append}
 use Rattle.std.proofs.lemmas.List.Kept.{AllPairs-from_increasing}
 use Rattle.qbf_core.proofs.DistinctNumbers.{all_at}
 use Rattle.step_index.specs.Numbers.{is_used}
-use Rattle.qrp_check.proofs.Marking.{core_within}
+use Rattle.core_walk.proofs.Marking.{core_within}
 
 -- ---- lists by places
 

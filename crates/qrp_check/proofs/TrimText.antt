@@ -8,7 +8,7 @@ use Rattle.qrp.specs.Derivations.{IsWellFormed}
 use Rattle.qrp.proofs.ReadingLaws.{text_is_read}
 use Rattle.qrp_check.specs.Laws.{TrimmedTextProves}
 use Rattle.qrp_check.specs.Trim.{trimmed_trace}
-use Rattle.qrp_check.proofs.Marking.{core_within}
+use Rattle.core_walk.proofs.Marking.{core_within}
 use Rattle.qrp.proofs.WrittenParts.{length_at}
 use Rattle.qrp_check.proofs.StepsAt.{core_inside, each_at, numbers_at, others_at}
 use Rattle.qrp_check.proofs.TrimKeeps.{trimming_keeps}

@@ -9,10 +9,10 @@ use Rattle.qrp.specs.declared.item.Outcome.{Outcome}
 use Rattle.qrp.specs.Inferences.{Inference, IsAt}
 use Rattle.qrp_rules.specs.declared.rules.Rules.{Rules}
 use Rattle.qrp_rules.specs.declared.fault.RuleFault.{RuleFault}
-use Rattle.qrp_check.specs.Conditions.{IsNumberOf, lits_of}
+use Rattle.core_walk.specs.Conditions.{IsNumberOf, lits_of}
 use Rattle.qrp_rules.specs.Conditions.{Condition, AllHold, initial_condition, reduct_conditions}
 use Rattle.qrp_rules.specs.Unreduced.{unreduced_conditions}
-use Rattle.qrp_check.specs.Core.{IsGoal, IsInCore}
+use Rattle.core_walk.specs.Core.{IsGoal, IsInCore}
 use Rattle.qrp_check.specs.Proof.{side_of}
 use Rattle.qrp_check.specs.Sets.{SetsAgree}
 

@@ -4,20 +4,18 @@ ghost use Rattle.std.specs.Prelude.{◌≡◌, ◌≢◌, ◌↔◌, ℕ, ◌<�
 ghost use Rattle.std.specs.List.{AllByRecursion};
 ghost use Rattle.std.specs.List.Sorted.{IsStrictlyIncreasing};
 ghost use Rattle.qbf_core.specs.Truth.{IsTrueFormula};
+ghost use Rattle.core_walk.specs.Core.{IsGoal, ListsCore};
+ghost use Rattle.core_walk.specs.Marks.{MarksCore};
 ghost use Rattle.qrp_check.specs.declared.fault.CheckFault.TheVariants.{C5};
-ghost use Rattle.qrp_check.specs.Core.{IsGoal, ListsCore};
-ghost use Rattle.qrp_check.specs.Followed.{IsCoreFault};
-ghost use Rattle.qrp_check.specs.Marks.{MarksCore};
 ghost use Rattle.qrp_check.specs.Proof.{Derives, Proves, IsFirstFault};
+ghost use Rattle.qrp_check.specs.Refused.{IsCoreRefusal};
 ghost use Rattle.qrp_check.specs.Verdict.{is_sat};
 
 use crate::agree::sets_fault;
 use crate::fault::CheckFault;
-use crate::following::follow_core;
-use crate::hints::Hints;
-use crate::marks::{find_goal, mark_core, marked_positions};
-use crate::step::Context;
+use crate::marks::{find_goal, marked_positions};
 use crate::verdict::Verified;
+use core_walk::{Context, CoreFault, walk_core};
 use qbf_core::Formula;
 use qrp::{KeptSteps, LentSteps, Outcome, QuantSet, Steps};
 use qrp_rules::{Clauses, Cubes, Rules, Side};
@@ -41,14 +39,13 @@ fn check_core<S: Side, T: KeptSteps>(
         (Derives context.entry.rules S.side context.entry.formula.now (T.steps trace.now)) }
     ensures core { IfOk result (λ marks. MarksCore (T.steps trace.now) marks.items) }
     ensures refused { IfErr result
-        (IsCoreFault context.entry.rules S.side context.entry.formula.now (T.steps trace.now)) }
+        (IsCoreRefusal context.entry.rules S.side context.entry.formula.now (T.steps trace.now)) }
 {
-    let mut hints = Hints::new(context.alloc, trace);
-    let Ok(marks) = mark_core(context.alloc, trace, goal, &mut hints) else {
-        return Err(CheckFault::C5);
-    };
-    follow_core::<S, T>(context, trace, &marks, hints)?;
-    Ok(marks)
+    match walk_core::<S, T>(context, trace, goal) {
+        Ok(marks) => Ok(marks),
+        Err(CoreFault::OutOfMemory) => Err(CheckFault::C5),
+        Err(CoreFault::Step(number, fault)) => Err(CheckFault::C6(number, fault)),
+    }
 }
 
 /// The marks of the core, if sets, steps and outcome of a trace prove the outcome of the formula.

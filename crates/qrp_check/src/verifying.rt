@@ -2,17 +2,17 @@
 
 ghost use Rattle.std.specs.Prelude.{◌≡◌, ◌-◌, ◌^◌, ◌<◌, ◌↔◌, OnOk, IfErr, IfOk, IfSome};
 ghost use Rattle.qbf_text.specs.Stopping.{IfKnown};
+ghost use Rattle.core_walk.specs.Core.{ListsCore};
 ghost use Rattle.qrp_check.specs.Checked.{IsChecked, IsCheckedOf, IsOfSource, IsTruthOf};
 ghost use Rattle.qrp_check.specs.Checked.{StopsOnceRead, call_of, verdict_of};
-ghost use Rattle.qrp_check.specs.Core.{ListsCore};
 ghost use Rattle.qrp_check.specs.Headline.{Headline};
 ghost use Rattle.qrp_check.specs.Proof.{Proves};
 ghost use Rattle.qrp_check.specs.Verdict.{IsVerdictUnless, IsFormulaDevice, IsTraceDevice, is_sat};
 ghost use Rattle.qrp_check.specs.Verdict.{IsFormulaFault, StandsOnLine, WasRead, StopsAfterTrace};
 
 use crate::checking::{check_kept, check_marked, is_sat};
-use crate::step::Context;
 use crate::verdict::{Fault, Verified};
+use core_walk::Context;
 use qbf_core::Formula;
 use qbf_text::Source;
 use qdimacs::read_formula;

@@ -13,8 +13,8 @@ use Rattle.qbf_core.proofs.Leaves.{pairs_ascend}
 use Rattle.qbf_core.proofs.Members.{only_literal, same_or_not}
 use Rattle.qbf_core.proofs.Reduction.{Ascending}
 use Rattle.qrp_check.specs.Unreduced.{FollowsUnreduced, ProvesUnreduced, unreduced_antecedents}
-use Rattle.qrp_check.proofs.Marking.{core_within}
-use Rattle.qrp_check.proofs.StepFaults.{need_of}
+use Rattle.core_walk.proofs.Marking.{core_within}
+use Rattle.core_walk.proofs.NamedSteps.{need_of}
 use Rattle.qrp_check.proofs.WiderRules.{reduced_parents_keep}
 use Rattle.qbf_completeness.proofs.Deriving.{var_of, clash_at}
 use Rattle.qbf_completeness.proofs.SameBlock.{stands_before}

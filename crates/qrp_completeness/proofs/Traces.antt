@@ -25,7 +25,7 @@ use Rattle.qrp_check.specs.declared.verdict.Verified.{Verified}
 use Rattle.qrp_check.specs.declared.verdict.Fault.{Fault}
 use Rattle.std.specs.Prelude.{IsOk, ◌⊎◌}
 use Rattle.qrp_check.proofs.CheckAnswers.{closed_of}
-use Rattle.qrp_check.proofs.Marking.{core_within}
+use Rattle.core_walk.proofs.Marking.{core_within}
 use Rattle.qrp_check.proofs.StepsAt.{holds_number}
 use Rattle.qrp_check.proofs.Soundness.{soundness}
 use Rattle.qrp_check.proofs.WiderRules.{reduced_parents_keep}

@@ -11,8 +11,8 @@ use Rattle.qbf_core.specs.Rules.{Side, Clauses, Cubes, IsClean, reduced_quantifi
 use Rattle.qrp.specs.declared.item.Outcome.{Outcome}
 use Rattle.qrp.specs.Inferences.{Inference, IsAt}
 use Rattle.qrp_rules.specs.declared.rules.Rules.{Rules}
-use Rattle.qrp_check.specs.Conditions.{IsNumberOf, lits_of}
-use Rattle.qrp_check.specs.Core.{IsGoal, IsInCore}
+use Rattle.core_walk.specs.Conditions.{IsNumberOf, lits_of}
+use Rattle.core_walk.specs.Core.{IsGoal, IsInCore}
 use Rattle.qrp_check.specs.Proof.{side_of, Proves}
 use Rattle.qrp_check.specs.Unreduced.{ProvesUnreduced}
 

@@ -2,7 +2,7 @@
 use Rattle.std.specs.Prelude.{Bool, true, false, List, [], ℕ, ◌<◌, length}
 use Rattle.std.specs.List.{AllByRecursion}
 use Rattle.qrp.specs.Inferences.{Inference}
-use Rattle.qrp_check.specs.Core.{ListsCore}
+use Rattle.core_walk.specs.Core.{ListsCore}
 use Rattle.qrp_check.specs.Proof.{Proves}
 use Rattle.qrp_rules.specs.declared.rules.Rules.{Rules}
 use Rattle.qbf_core.specs.declared.quantifier.Quantifier.{Quantifier}

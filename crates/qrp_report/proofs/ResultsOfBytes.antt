@@ -11,7 +11,7 @@ use Rattle.qrp_rules.specs.declared.rules.Rules.{Rules}
 use Rattle.qrp_check.specs.declared.verdict.Fault.{Fault}
 use Rattle.qrp_check.specs.declared.verdict.Verified.{Verified}
 use Rattle.qrp_check.specs.Checked.{SourceCall, IsChecked, WasReadFrom, verdict_of}
-use Rattle.qrp_check.specs.Core.{ListsCore}
+use Rattle.core_walk.specs.Core.{ListsCore}
 use Rattle.qrp_check.specs.Proof.{IsProof}
 use Rattle.qrp_check.specs.Trim.{trimmed_trace}
 use Rattle.qrp_check.specs.Verdict.{IsVerdict, IsVerdictUnless}

@@ -9,7 +9,7 @@ use Rattle.qrp.specs.Reading.{read_trace}
 use Rattle.qrp_rules.specs.declared.rules.Rules.{Rules}
 use Rattle.qrp_check.specs.declared.verdict.Fault.{Fault}
 use Rattle.qrp_check.specs.Checked.{SourceCall, IsChecked}
-use Rattle.qrp_check.specs.Core.{ListsCore}
+use Rattle.core_walk.specs.Core.{ListsCore}
 use Rattle.qrp_check.specs.Laws.{IsTrimmedProof}
 use Rattle.qrp_check.specs.Proof.{IsProof}
 use Rattle.qrp_check.specs.Trim.{trimmed_trace}

@@ -7,8 +7,8 @@ use Rattle.qbf_core.proofs.Members.{got_in, in_got, lit_is}
 use Rattle.qbf_core.specs.Literal.{negated, positive, negative}
 use Rattle.qbf_core.specs.Rules.{reduced_quantifier}
 use Rattle.qbf_core.specs.declared.quantifier.Quantifier.TheVariants.{All, Exists}
-use Rattle.qrp_check.proofs.StepFaults.{step_named}
-use Rattle.qrp_check.specs.Earlier.{StandsEarlier}
+use Rattle.core_walk.proofs.NamedSteps.{step_named}
+use Rattle.core_walk.specs.Earlier.{StandsEarlier}
 use Rattle.written_steps.specs.Accepted.{IsFit}
 use Rattle.qrp_rules.specs.Reducts.{IsReductAt}
 use Rattle.written_steps.specs.Seen.{Has, Members}

@@ -11,7 +11,7 @@ use Rattle.qbf_strategy.specs.Decisions.{Decision, are_set, decided, value_in}
 use Rattle.qbf_strategy.specs.Winning.{IsWinningCircuit, set_in_run}
 use Rattle.qrp.specs.Inferences.{Inference}
 use Rattle.qrp.specs.declared.item.Outcome.{Outcome}
-use Rattle.qrp_check.specs.Core.{ListsCore}
+use Rattle.core_walk.specs.Core.{ListsCore}
 use Rattle.qrp_check.specs.Proof.{Proves, side_of}
 use Rattle.qrp_rules.specs.declared.rules.Rules.{Rules}
 use Rattle.qrp_winner.specs.ProofDecisions.{AreAllThatSet, unless_idle, without_idle}

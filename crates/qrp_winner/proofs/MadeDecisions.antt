@@ -12,7 +12,7 @@ use Rattle.qbf_core.proofs.Inferences.{in_without, resolvent_clean}
 use Rattle.std.proofs.Common.{append-nil, map}
 use Rattle.std.proofs.lemmas.List.{length_push}
 use Rattle.qbf_strategy.specs.Decisions.{Decision, decision_by, decisions_by, wanted}
-use Rattle.qrp_check.proofs.StepFaults.{need_of}
+use Rattle.core_walk.proofs.NamedSteps.{need_of}
 use Rattle.qrp_rules.specs.Conditions.{IsReducibleInParents}
 use Rattle.qrp_rules.specs.declared.blocks.Reducible.{Reducible}
 use Rattle.written_steps.specs.Seen.{Members}

@@ -14,7 +14,7 @@ use Rattle.qbf_core.proofs.Members.{in_got, lit_is, negated_twice, only_literal}
 use Rattle.qbf_core.proofs.Inferences.{keeps_cube_holds}
 use Rattle.qbf_completeness.proofs.Players.{mine_is}
 use Rattle.qbf_core.proofs.Leaves.{leaf_is_clean, leaf_is_total, pairs_ascend}
-use Rattle.qrp_check.proofs.StepFaults.{need_of}
+use Rattle.core_walk.proofs.NamedSteps.{need_of}
 use Rattle.qbf_completeness.specs.Strategies.{literal_of}
 use Rattle.qbf_strategy.specs.Decisions.{Decision, are_set, decided, play_by, wanted}
 use Rattle.qrp_winner.specs.ProofDecisions.{IsNeeded, IsFullyReduced, CoversParent, CoversInitial, Covers, IsDecisionAt, AreDecisionsOf}

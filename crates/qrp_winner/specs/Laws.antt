@@ -9,7 +9,7 @@ use Rattle.qbf_strategy.specs.Decisions.{Decision, play_by}
 use Rattle.qbf_strategy.specs.Winning.{IsWinningCircuit, IsWon}
 use Rattle.qrp.specs.Inferences.{Inference}
 use Rattle.qrp.specs.declared.item.Outcome.{Outcome}
-use Rattle.qrp_check.specs.Core.{ListsCore}
+use Rattle.core_walk.specs.Core.{ListsCore}
 use Rattle.qrp_check.specs.Proof.{side_of, Proves}
 use Rattle.qrp_rules.specs.declared.rules.Rules.{Rules}
 use Rattle.qrp_winner.specs.ProofDecisions.{AreDecisionsOf}

@@ -7,7 +7,7 @@ use Rattle.qbf_core.specs.Qbf.{Qbf}
 use Rattle.qbf_core.specs.Rules.{Side, Clauses, Cubes, Clashes, IsClean, IsReducible, IsReduct, reduced_quantifier}
 use Rattle.qbf_strategy.specs.Decisions.{decision_by}
 use Rattle.qrp.specs.Inferences.{Inference}
-use Rattle.qrp_check.specs.Conditions.{lits_of}
+use Rattle.core_walk.specs.Conditions.{lits_of}
 use Rattle.written_steps.specs.Seen.{Has, Members}
 use Rattle.qrp_rules.specs.Walks.{IsThePivot, TakesOut}
 use Rattle.qrp_rules.specs.declared.blocks.Reducible.{Reducible}

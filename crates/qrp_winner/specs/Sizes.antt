@@ -6,8 +6,8 @@ use Rattle.qbf_core.specs.Qbf.{Qbf}
 use Rattle.qbf_core.specs.Rules.{Side, Clauses, Cubes}
 use Rattle.qrp.specs.Derivations.{Derivation}
 use Rattle.qrp.specs.Inferences.{Inference}
-use Rattle.qrp_check.specs.Conditions.{lits_of}
-use Rattle.qrp_check.specs.Core.{ListsCore}
+use Rattle.core_walk.specs.Conditions.{lits_of}
+use Rattle.core_walk.specs.Core.{ListsCore}
 use Rattle.qrp_check.specs.Proof.{side_of}
 
 -- how many literals the longest of some lists has

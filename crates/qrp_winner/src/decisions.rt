@@ -4,7 +4,7 @@ ghost use Rattle.std.specs.Prelude.{◌≡◌, ◌<◌, ℕ, Some, length, slice
 ghost use Rattle.qbf_core.specs.Members.{◌∈◌};
 ghost use Rattle.qbf_core.specs.Rules.{reduced_quantifier};
 ghost use Rattle.qbf_strategy.specs.Decisions.{decisions_by};
-ghost use Rattle.qrp_check.specs.Core.{IsInCore, ListsCore};
+ghost use Rattle.core_walk.specs.Core.{IsInCore, ListsCore};
 ghost use Rattle.qrp_check.specs.Proof.{Derives, side_of};
 ghost use Rattle.qrp_rules.specs.declared.rules.Rules.{Rules};
 ghost use Rattle.qrp_winner.specs.ProofDecisions.{AreAllThatSet};

@@ -4,8 +4,8 @@ ghost use Rattle.std.specs.Prelude.{◌≡◌, ◌<◌, ◌∷◌, [], ℕ, None
 ghost use Rattle.qbf_core.specs.Literal.{Literal, negated};
 ghost use Rattle.qbf_core.specs.Members.{◌∈◌};
 ghost use Rattle.qrp.specs.Inferences.{Inference, IsAt};
-ghost use Rattle.qrp_check.specs.Conditions.{IsNumberOf, StepFollows};
-ghost use Rattle.qrp_check.specs.Earlier.{StandsEarlier};
+ghost use Rattle.core_walk.specs.Conditions.{IsNumberOf, StepFollows};
+ghost use Rattle.core_walk.specs.Earlier.{StandsEarlier};
 ghost use Rattle.written_steps.specs.Accepted.{IsFit};
 ghost use Rattle.qrp_rules.specs.Conditions.{AllHold, initial_condition};
 ghost use Rattle.qrp_rules.specs.Reducts.{IsReductAt};

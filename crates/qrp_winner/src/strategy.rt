@@ -6,7 +6,7 @@ ghost use Rattle.qbf_core.specs.Blocks.{Block, pairs, variables};
 ghost use Rattle.qbf_core.specs.Rules.{reduced_quantifier};
 ghost use Rattle.qbf_strategy.specs.Winning.{IsWinningCircuit};
 ghost use Rattle.qrp_check.specs.Checked.{call_of};
-ghost use Rattle.qrp_check.specs.Core.{ListsCore};
+ghost use Rattle.core_walk.specs.Core.{ListsCore};
 ghost use Rattle.qrp_check.specs.Proof.{Proves, side_of};
 ghost use Rattle.qrp_rules.specs.declared.rules.Rules.{Rules};
 ghost use Rattle.qrp_winner.specs.Sizes.{core_size};

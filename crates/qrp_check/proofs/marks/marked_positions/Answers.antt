@@ -1,6 +1,7 @@
 use Rattle.qrp_check.proofs.Cited.{ℕ, ◌+◌, List, subst, sym, ListsMarked}
 use Rattle.std.proofs.Common.{Vec, Global}
-use Rattle.qrp_check.proofs.MarkedPlaces.{is_marked, is_unmarked, listing_skip, listing_push}
+use Rattle.core_walk.proofs.MarkedPlaces.{is_marked, is_unmarked}
+use Rattle.qrp_check.proofs.MarkedPlaces.{listing_skip, listing_push}
 use Rattle.qrp_check.proofs.marks.marked_positions.Goals.{then-marks-position+in_ok-push, else-marks-position}
 use Rattle.qrp_check.proofs.marks.marked_positions.Goals as goal
 

@@ -1,0 +1,9 @@
+pub mod Core
+pub mod Conditions
+pub mod Faulty
+pub mod Marks
+pub mod Earlier
+pub mod DistinctLits
+pub mod Premises
+pub mod Uneven
+pub mod Followed

@@ -1,6 +1,0 @@
-use Rattle.qrp_check.specs.Followed.{IsFollowed}
-use Rattle.qrp_check.proofs.following.follow_core.Given as goal
-
-abbrev pub invariant-loop-position : goal.invariant-loop-position
-invariant-loop-position g l =
-    IsFollowed l.context.rules g.S.Side.side l.context.formula.now (g.T.KeptSteps.steps l.trace) l.position l.state
