@@ -5,6 +5,7 @@ pub mod SpelledIsRead
 pub mod ReadIsSpelled
 pub mod WrittenParts
 pub mod FlatSteps
+pub mod SetLists
 pub mod RowsReadTheItem
 pub mod ItemStops
 pub mod KeptItems

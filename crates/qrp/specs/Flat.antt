@@ -51,7 +51,7 @@ lent ants = ants.whole
 abbrev pub kept_of : {A : Type 0} → (A → List (List ℕ)) → Parts A → Kept
 kept_of lists p = record {
   header = p.header;
-  sets = p.sets.items;
+  sets = p.sets;
   numbers = p.lists.index;
   lits = p.lists.lits.whole;
   ants = lists p.ants;

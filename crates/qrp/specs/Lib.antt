@@ -8,6 +8,7 @@ pub mod NextItem
 pub mod Returns
 pub mod Texts
 pub mod Flat
+pub mod SetLists
 pub mod Framed
 pub mod States
 pub mod Items

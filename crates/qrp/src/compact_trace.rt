@@ -5,7 +5,8 @@ ghost use Rattle.qrp.specs.Derivations.{IsWellFormed};
 ghost use Rattle.qrp.specs.Returns.{ReadsTrace};
 
 use crate::fault::TraceFault;
-use crate::item::{Header, Outcome, QuantSet};
+use crate::flat_sets::FlatSets;
+use crate::item::{Header, Outcome};
 use crate::kept_steps::KeptSteps;
 use crate::parts::Parts;
 use crate::whole_trace::read_parts;
@@ -47,7 +48,7 @@ impl CompactTrace {
     }
 
     /// Its quantifier sets, as written.
-    pub fn sets(&self) -> &[QuantSet]
+    pub fn sets(&self) -> &FlatSets
         ensures { result.now ≡ self.now.sets }
     {
         &self.parts.sets

@@ -3,7 +3,8 @@
 //!
 //! - Owns: texts of traces, steps.
 //! - Offers: `TraceReader`, `read_trace`, `read_flat`, `write_trace`, `write_steps_at`, `Steps`,
-//!   `Trace`; `read_compact`, `KeptSteps`, `CompactTrace`; `write_framed`, `write_framed_at`.
+//!   `Trace`; `read_compact`, `KeptSteps`, `KeptSets`, `CompactTrace`; `write_framed`,
+//!   `write_framed_at`.
 //! - Proved: exactly the trace that the bytes spell, or exactly the first fault and its line, whole
 //!   and item by item; the canonical text; one contract for steps however they are kept.
 //! - Read first: `TraceReader::next_item`, `read_trace`, `write_trace`, `write_steps_at`,
@@ -16,6 +17,7 @@
 
 mod compact_trace;
 mod fault;
+mod flat_sets;
 mod item;
 mod items;
 mod kept_steps;
@@ -32,6 +34,7 @@ mod writing;
 
 pub use compact_trace::{CompactTrace, read_compact};
 pub use fault::TraceFault;
+pub use flat_sets::{FlatSets, KeptSets, LentSets};
 pub use item::{Header, Item, Outcome, QuantSet, Step};
 pub use kept_steps::{KeptSteps, LentSteps};
 pub use laws::{item_laws, trace_laws};

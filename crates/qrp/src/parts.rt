@@ -6,11 +6,11 @@ ghost use Rattle.qrp.specs.Flat.{after_close, kept_of, nothing_kept, ClosesPart,
 ghost use Rattle.qrp.specs.States.{IsComplete, Stays};
 ghost use Rattle.step_index.specs.Numbers.{is_used, AreStepNumbers};
 
-use crate::item::{Header, QuantSet};
+use crate::flat_sets::FlatSets;
+use crate::item::Header;
 use crate::states::{Lists, Part};
-use qbf_core::GrowingLists;
+use qbf_core::{GrowingLists, Var};
 use std::alloc::{AllocError, Global};
-use std::mem;
 use step_antecedents::{AntecedentLists, AntecedentPair};
 use step_index::StepIndex;
 
@@ -20,7 +20,7 @@ pub struct Parts<A> {
     pub alloc: Global,
     pub header: Header,
     /// The sets that are whole.
-    pub sets: Vec<QuantSet>,
+    pub sets: FlatSets,
     /// The whole lists of steps, and the unfinished lists.
     pub lists: Lists,
     /// The antecedents of the steps that are whole.
@@ -36,7 +36,7 @@ impl<A: AntecedentLists> Parts<A> {
         Parts {
             alloc,
             header: Header { vars: 0, steps: 0 },
-            sets: Vec::new(alloc),
+            sets: FlatSets::new(alloc),
             lists: Lists {
                 vars: Vec::new(alloc),
                 lits: GrowingLists::new(alloc),
@@ -87,6 +87,16 @@ fn close_step<A: AntecedentLists>(
     }
 }
 
+/// Of a set with more variables than this, the list in which it was read is freed.
+const LONG: usize = 4096;
+
+/// Frees the list in which a set was read, if it is long.
+fn free_long(vars: &mut Vec<Var>, alloc: Global) {
+    if vars.len() > LONG {
+        *vars = Vec::new(alloc);
+    }
+}
+
 /// Puts a part that is complete after the others. Nothing is kept of a result.
 ///
 /// # Errors
@@ -104,8 +114,8 @@ pub fn close<A: AntecedentLists>(parts: &mut Parts<A>, part: Part) -> Result<(),
             Ok(())
         }
         Part::Set(quantifier) => {
-            let vars = mem::replace(&mut parts.lists.vars, Vec::new(parts.alloc));
-            parts.sets.push(QuantSet { quantifier, vars })?;
+            parts.sets.push(quantifier, &parts.lists.vars)?;
+            free_long(&mut parts.lists.vars, parts.alloc);
             Ok(())
         }
         Part::Step(number) => {

@@ -2,7 +2,7 @@
 
 ghost use Rattle.std.specs.Prelude.{◌≡◌, ◌<◌, Ok, length};
 ghost use Rattle.std.proofs.Props.{props};
-ghost use Rattle.std.specs.List.{AllByRecursion};
+ghost use Rattle.std.specs.List.{AllByRecursion, flat_map};
 ghost use Rattle.qbf_tokens.specs.Canonical.{line_text};
 ghost use Rattle.qbf_text.specs.Written.{IsPut};
 ghost use Rattle.qrp.specs.Derivations.{steps_at, with_steps_at};
@@ -14,20 +14,46 @@ ghost use Rattle.dimacs_syntax.specs.Texts.{set_text};
 ghost use Rattle.qrp.specs.Texts.{step_text, steps_text};
 
 use crate::compact_trace::CompactTrace;
+use crate::flat_sets::{FlatSets, KeptSets};
 use crate::item::{Header, Outcome, QuantSet};
 use crate::kept_steps::{KeptSteps, LentSteps};
 use crate::trace::Trace;
 use dimacs_syntax::{Bare, Bytes, HeaderLine, Put};
-use qbf_core::Lit;
+use qbf_core::{Lit, Quantifier, Var};
 use qbf_text::{Sink, SinkFault, put_bytes};
 use step_antecedents::Antecedents;
+
+/// The line of a set with this quantifier and these variables.
+#[inline(always)]
+fn put_set<K: Sink>(sink: &mut K, quantifier: Quantifier, vars: &[Var]) -> Result<(), SinkFault>
+    ensures { IsPut K.written K.failures K.failed_last sink.old sink.new
+        (set_text (record { quantifier = quantifier; vars = vars.now })) result }
+{
+    (quantifier, (vars, Bytes(b" 0\n"))).put(sink)
+}
 
 /// The line of a set.
 impl Put for QuantSet {
     ghost text = { set_text };
 
     fn put<K: Sink>(&self, sink: &mut K) -> Result<(), SinkFault> {
-        (self.quantifier, (&self.vars[..], Bytes(b" 0\n"))).put(sink)
+        put_set(sink, self.quantifier, &self.vars)
+    }
+}
+
+/// The lines of all sets.
+#[derive(Clone, Copy)]
+struct SetLines<'a>(&'a FlatSets);
+
+impl<'a> Put for SetLines<'a> {
+    ghost text = { λ s. flat_map set_text s.0.now };
+
+    fn put<K: Sink>(&self, sink: &mut K) -> Result<(), SinkFault> {
+        for place in 0..self.0.len() {
+            let (quantifier, vars) = self.0.get(place);
+            put_set(sink, quantifier, vars)?;
+        }
+        Ok(())
     }
 }
 
@@ -219,5 +245,5 @@ pub fn write_steps_at<K: Sink>(
     let Header { vars, steps } = counted(trace.header(), positions.len());
     let header = HeaderLine(b"p qrp", vars, steps);
     let lines = StepLinesAt { trace, positions };
-    (header, (trace.sets(), (lines, trace.result()))).put(sink)
+    (header, (SetLines(trace.sets()), (lines, trace.result()))).put(sink)
 }

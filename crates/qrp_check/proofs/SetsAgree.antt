@@ -5,6 +5,7 @@ use Rattle.qrp_check.proofs.Cited.{pairs_of_block, in_push, push_in, CheckFault,
 use Rattle.std.proofs.Common.{slice_get}
 use Rattle.std.proofs.lemmas.List.{append_assoc, append-nil, map-append, map_more, take-append-drop}
 use Rattle.std.proofs.lemmas.List.Concat.{flat_map-append}
+use Rattle.std.proofs.lemmas.Option.{slice_get_within, get_or_from_slice_get}
 use Rattle.qbf_core.specs.Blocks.{Binds, block_in}
 use Rattle.qbf_core.proofs.Bound.{binds_in, in_bound}
 use Rattle.qrp_check.specs.Sets.{set_conditions, PairsAgree, IsPairFault}
@@ -158,3 +159,12 @@ sets_rest sets i s less e =
     ap (λ (ps : List (Quantifier × ℕ)). ps ++ pairs (drop (i + 1) sets)) (sym (sets_next sets i s less e))
     ∙ sym (flat_map-append pairs_of_block (take (i + 1) sets) (drop (i + 1) sets))
     ∙ ap pairs (take-append-drop (i + 1) sets)
+
+-- the same, of the set that stands at a place
+pub next_set : (sets : List Block) (i : ℕ) (s : Block) → slice_get sets i ≡ Some s
+    → pairs (take (i + 1) sets) ≡ pairs (take i sets) ++ pairs_of_block s
+next_set sets i s at = sets_next sets i s (slice_get_within sets i s at) (sym (get_or_from_slice_get sets i s s at))
+
+pub rest_of_sets : (sets : List Block) (i : ℕ) (s : Block) → slice_get sets i ≡ Some s
+    → (pairs (take i sets) ++ pairs_of_block s) ++ pairs (drop (i + 1) sets) ≡ pairs sets
+rest_of_sets sets i s at = sets_rest sets i s (slice_get_within sets i s at) (sym (get_or_from_slice_get sets i s s at))

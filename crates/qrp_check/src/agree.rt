@@ -7,7 +7,7 @@ ghost use Rattle.qrp_check.specs.Sets.{IsSetFault, SetsAgree};
 
 use crate::fault::CheckFault;
 use qbf_core::{Prefix, Quantifier, Var};
-use qrp::QuantSet;
+use qrp::KeptSets;
 use qrp_rules::is_bound_by;
 
 /// The block of a set variable, if the variable agrees with the prefix and the block is no smaller
@@ -40,15 +40,21 @@ fn next_block(
     }
 }
 
-/// The greatest block after one set.
-fn set_block(prefix: &Prefix, set: &QuantSet, highest: usize) -> Result<usize, CheckFault>
-    ensures ok { IfOk result (λ n. Passes prefix.now highest (pairs_of_block set.now) n) }
-    ensures err { IfErr result
-        (λ fault. FailsIn prefix.now highest (pairs_of_block set.now) fault) }
+/// The greatest block after a set with this quantifier and these variables.
+fn set_block(
+    prefix: &Prefix,
+    quantifier: Quantifier,
+    vars: &[Var],
+    highest: usize,
+) -> Result<usize, CheckFault>
+    ensures ok { IfOk result (λ n. Passes prefix.now highest
+        (pairs_of_block (record { quantifier = quantifier; vars = vars.now })) n) }
+    ensures err { IfErr result (λ fault. FailsIn prefix.now highest
+        (pairs_of_block (record { quantifier = quantifier; vars = vars.now })) fault) }
 {
     let mut reached = highest;
-    for var in &set.vars {
-        match next_block(prefix, set.quantifier, *var, reached) {
+    for var in vars {
+        match next_block(prefix, quantifier, *var, reached) {
             Ok(block) => reached = block,
             Err(fault) => return Err(fault),
         }
@@ -61,13 +67,14 @@ fn set_block(prefix: &Prefix, set: &QuantSet, highest: usize) -> Result<usize, C
 /// They agree if each variable that they name is bound by the prefix, with that quantifier, and its
 /// block is no smaller than that of any variable named before it. The result is about the first
 /// variable in file order that fails, and is the first of `C1`, `C2` and `C3` that fits it.
-pub(crate) fn sets_fault(prefix: &Prefix, sets: &[QuantSet]) -> Option<CheckFault>
-    ensures none { IfNone result (SetsAgree prefix.now sets.now) }
-    ensures some { IfSome result (λ fault. IsSetFault prefix.now sets.now fault) }
+pub(crate) fn sets_fault<Q: KeptSets>(prefix: &Prefix, sets: &Q) -> Option<CheckFault>
+    ensures none { IfNone result (SetsAgree prefix.now (Q.sets sets.now)) }
+    ensures some { IfSome result (λ fault. IsSetFault prefix.now (Q.sets sets.now) fault) }
 {
     let mut highest = 0;
-    for set in sets {
-        match set_block(prefix, set, highest) {
+    for place in 0..sets.len() {
+        let (quantifier, vars) = sets.get(place);
+        match set_block(prefix, quantifier, vars, highest) {
             Ok(block) => highest = block,
             Err(fault) => return Some(fault),
         }

@@ -17,7 +17,7 @@ use crate::marks::{find_goal, marked_positions};
 use crate::verdict::Verified;
 use core_walk::{Context, CoreFault, walk_core};
 use qbf_core::Formula;
-use qrp::{KeptSteps, LentSteps, Outcome, QuantSet, Steps};
+use qrp::{KeptSets, KeptSteps, LentSets, LentSteps, Outcome, QuantSet, Steps};
 use qrp_rules::{Clauses, Cubes, Rules, Side};
 use std::alloc::Global;
 
@@ -52,19 +52,19 @@ fn check_core<S: Side, T: KeptSteps>(
 ///
 /// # Errors
 /// As of `check`.
-pub(crate) fn check_marked<T: KeptSteps>(
+pub(crate) fn check_marked<T: KeptSteps, Q: KeptSets>(
     context: Context,
     trace: &T,
-    sets: &[QuantSet],
+    sets: &Q,
     outcome: Outcome,
 ) -> Result<Vec<bool>, CheckFault>
-    ensures proves { OnOk result (Proves context.entry.rules context.entry.formula.now sets.now
+    ensures proves { OnOk result (Proves context.entry.rules context.entry.formula.now (Q.sets sets.now)
         (T.steps trace.now) outcome) }
     ensures core { IfOk result (λ marks. MarksCore (T.steps trace.now) marks.items) }
     ensures truth { OnOk result
         (IsTrue (is_sat outcome) ↔ IsTrueFormula context.entry.formula.now) }
     ensures refused { IfErr result (λ e. e ≢ C5 → IsFirstFault context.entry.rules
-        context.entry.formula.now sets.now (T.steps trace.now) outcome e) }
+        context.entry.formula.now (Q.sets sets.now) (T.steps trace.now) outcome e) }
 {
     if let Some(fault) = sets_fault(context.formula.prefix(), sets) {
         return Err(fault);
@@ -82,13 +82,13 @@ pub(crate) fn check_marked<T: KeptSteps>(
 ///
 /// # Errors
 /// As of `check`.
-pub(crate) fn check_kept<T: KeptSteps>(
+pub(crate) fn check_kept<T: KeptSteps, Q: KeptSets>(
     context: Context,
     trace: &T,
-    sets: &[QuantSet],
+    sets: &Q,
     outcome: Outcome,
 ) -> Result<Verified, CheckFault>
-    ensures proves { OnOk result (Proves context.entry.rules context.entry.formula.now sets.now (T.steps trace.now) outcome) }
+    ensures proves { OnOk result (Proves context.entry.rules context.entry.formula.now (Q.sets sets.now) (T.steps trace.now) outcome) }
     ensures core { IfOk result (λ v. ListsCore (T.steps trace.now) v.core.items) }
     ensures rises { IfOk result (λ v. IsStrictlyIncreasing v.core.items) }
     ensures within { IfOk result
@@ -96,7 +96,7 @@ pub(crate) fn check_kept<T: KeptSteps>(
     ensures claim { IfOk result (λ v. v.truth ≡ is_sat outcome) }
     ensures truth { IfOk result (λ v. IsTrue v.truth ↔ IsTrueFormula context.entry.formula.now) }
     ensures refused { IfErr result
-        (λ e. e ≢ C5 → IsFirstFault context.entry.rules context.entry.formula.now sets.now (T.steps trace.now) outcome e) }
+        (λ e. e ≢ C5 → IsFirstFault context.entry.rules context.entry.formula.now (Q.sets sets.now) (T.steps trace.now) outcome e) }
 {
     let marks = check_marked(context, trace, sets, outcome)?;
     match marked_positions(context.alloc, &marks) {
@@ -145,5 +145,5 @@ pub fn check<T: Steps>(
         rules,
     };
     let kept = LentSteps(trace);
-    check_kept(context, &kept, sets, outcome)
+    check_kept(context, &kept, &LentSets(sets), outcome)
 }

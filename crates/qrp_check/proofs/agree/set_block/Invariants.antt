@@ -3,4 +3,4 @@ use Rattle.qrp_check.proofs.SetsAgree.{under}
 use Rattle.qrp_check.proofs.agree.set_block.Given as goal
 
 abbrev pub invariant-loop-var : goal.invariant-loop-var
-invariant-loop-var l = Passes l.prefix l.highest (under l.set.quantifier (take l.var-index l.var-items)) l.reached
+invariant-loop-var l = Passes l.prefix l.highest (under l.quantifier (take l.var-index l.vars)) l.reached

@@ -16,7 +16,7 @@ returns-in-Unsat-clause-truth g c = shows _ _ _ _ _ _ _ _ (ap side_of c.in-Unsat
     (claims_false c.args.context.formula.now) (closed_of c.args.context.formula.now c.prefix.ensures.sound) (returns-in-Unsat-clause-proves g c)
 
 pub returns-in-Unsat-clause-refused : goal.returns-in-Unsat-clause-refused
-returns-in-Unsat-clause-refused g c = refuses _ c.args.context.formula.now c.args.sets.now _ _ _ _ (ap side_of c.in-Unsat.is)
+returns-in-Unsat-clause-refused g c = refuses _ c.args.context.formula.now (g.Q.KeptSets.sets c.args.sets.now) _ _ _ _ (ap side_of c.in-Unsat.is)
     (rw c.prefix.ensures.value at c.in_default.ensures.none) c.check_core.ensures.refused
 
 pub returns-in-Sat-clause-proves : goal.returns-in-Sat-clause-proves
@@ -28,5 +28,5 @@ returns-in-Sat-clause-truth g c = shows _ _ _ _ _ _ _ _ (ap side_of c.in-Sat.is)
     (claims_true c.args.context.formula.now) (closed_of c.args.context.formula.now c.prefix.ensures.sound) (returns-in-Sat-clause-proves g c)
 
 pub returns-in-Sat-clause-refused : goal.returns-in-Sat-clause-refused
-returns-in-Sat-clause-refused g c = refuses _ c.args.context.formula.now c.args.sets.now _ _ _ _ (ap side_of c.in-Sat.is)
+returns-in-Sat-clause-refused g c = refuses _ c.args.context.formula.now (g.Q.KeptSets.sets c.args.sets.now) _ _ _ _ (ap side_of c.in-Sat.is)
     (rw c.prefix.ensures.value at c.in_default.ensures.none) c.check_core-in-Sat.ensures.refused
