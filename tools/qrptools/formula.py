@@ -126,6 +126,13 @@ class Formula:
             return self.places.get(variable, UNBOUND)
         return self.sought[variable]
 
+    def places_of(self, literals: Collection[int]) -> dict[int, Place]:
+        """Where the variable of each of these literals is bound."""
+        if len(literals) <= FEW:
+            return {literal: self.place(literal) for literal in literals}
+        places = self.places
+        return {literal: places.get(abs(literal), UNBOUND) for literal in literals}
+
     def seek(self, variable: int) -> bool:
         """Looks for the place of a variable, unless there are too many sets, too many were looked for, or a number has leading zeros."""
         if max(len(self.sets), len(self.sought) + 1) > FEW or self.has_zeros:

@@ -45,10 +45,11 @@ def clashes(a: Iterable[int], b: Collection[int]) -> list[int]:
     return list(dict.fromkeys(abs(literal) for literal in a if -literal in b))
 
 
-def innermost(formula: Formula, side: Side, literals: Iterable[int]) -> Optional[int]:
+def innermost(formula: Formula, side: Side, literals: Collection[int]) -> Optional[int]:
     """The literal with the deciding quantifier whose block comes last, None where there is none."""
-    deciding = [l for l in literals if formula.place(l).quantifier == side.deciding]
-    return max(deciding, key=lambda l: (formula.place(l).block, -abs(l))) if deciding else None
+    places = formula.places_of(literals)
+    deciding = [literal for literal, place in places.items() if place.quantifier == side.deciding]
+    return max(deciding, key=lambda l: (places[l].block, -abs(l))) if deciding else None
 
 
 def what_keeps(formula: Formula, side: Side, last: Optional[int], literal: int) -> Optional[str]:
@@ -63,7 +64,7 @@ def what_keeps(formula: Formula, side: Side, last: Optional[int], literal: int) 
     return None
 
 
-def all_kept(formula: Formula, side: Side, literals: Iterable[int], out: Iterable[int]) -> dict[int, str]:
+def all_kept(formula: Formula, side: Side, literals: Collection[int], out: Iterable[int]) -> dict[int, str]:
     """Of the literals that are left out of these, those that are not reducible, with the reason."""
     last = innermost(formula, side, literals)
     return {l: reason for l in sorted(out, key=abs) if (reason := what_keeps(formula, side, last, l))}
@@ -89,7 +90,7 @@ def judge(formula: Formula, side: Side, any_pivot: bool, step: Step, before: Map
         given = {literal for number in step.antecedents for literal in before.get(number, [])}
         cause = "long" if all(literal in given for literal in both) else "damaged"
         return Finding("S1", reasons, dict.fromkeys(both, "both signs"), cause=cause)
-    unbound = [literal for literal in dict.fromkeys(step.literals) if formula.place(literal) == UNBOUND]
+    unbound = [literal for literal, place in formula.places_of(step.literals).items() if place == UNBOUND]
     if unbound:
         reasons = [f"The formula does not bind variable {abs(literal)}." for literal in unbound]
         return Finding("S2", reasons, dict.fromkeys(unbound, "unbound"))

@@ -40,16 +40,17 @@ def table(formula: Formula, columns: Columns, notes: dict[int, str], names: Opti
     if not literals:
         return
     known = names if names and names.names else None
-    rows = [["literal", *(["name"] if known else []), "quantifier", "block", *(name for name, _ in columns), ""]]
-    for literal in sorted(literals, key=lambda l: (formula.place(l).block, abs(l), -l)):
+    rows = [("literal", *(["name"] if known else []), "quantifier", "block", *(name for name, _ in columns), "")]
+    places = formula.places_of(literals)
+    for literal in sorted(literals, key=lambda l: (places[l].block, abs(l), -l)):
         name = [name_of(literal, known)] if known else []
-        quantifier, block, _ = formula.place(literal)
+        quantifier, block, _ = places[literal]
         held = ["yes" if literal in held else "-" for _, held in columns]
-        rows.append([str(literal), *name, quantifier or "unbound", str(block or "-"), *held, notes.get(literal, "")])
+        rows.append((str(literal), *name, quantifier or "unbound", str(block or "-"), *held, notes.get(literal, "")))
     widths = [max(map(len, column)) for column in zip(*rows)]
+    line = "  " + "  ".join(f"%{'' if title in TO_THE_RIGHT else '-'}{width}s" for title, width in zip(rows[0], widths))
     for row in rows:
-        cells = [cell.rjust(width) if title in TO_THE_RIGHT else cell.ljust(width) for title, cell, width in zip(rows[0], row, widths)]
-        yield ("  " + "  ".join(cells)).rstrip()
+        yield (line % row).rstrip()
     yield ""
 
 
