@@ -17,14 +17,14 @@ fn buffer_of(alloc: Global, room: Option<u64>) -> Result<Buffered<PieceSink>, Fa
     Ok(Buffered::new(PieceSink::new(alloc, 1000, room, false, 0)?))
 }
 
-/// Puts 30,000 bytes one by one, and returns them.
+/// Puts 100,000 bytes one by one, and returns them.
 fn put_each(
     rt: &impl Abort,
     alloc: Global,
     sink: &mut Buffered<PieceSink>,
 ) -> Result<Vec<u8>, Fail> {
     let mut sent = Vec::new(alloc);
-    for n in 0..30_000u32 {
+    for n in 0..100_000u32 {
         let byte = (n % 251) as u8;
         assert!(rt; put_byte(sink, byte).is_ok());
         sent.push(byte)?;
