@@ -136,23 +136,30 @@ module _ (bytes : List ℕ) (from end high low : ℕ) (after : from ≤ end - 8)
       ∙ ap (λ l. highs ++ l) (drop-take (mid - from) 8 (drop from bytes))
       ∙ ap (λ l. highs ++ take 8 l) (drop-drop (mid - from) from bytes ∙ ap (λ k. drop k bytes) (omega (arith, place)))
 
-  module _ (enough : 8 ≤ length rest) where
-    eight : length (take 8 (drop mid bytes)) ≡ 8
-    eight = length-take-le 8 (drop mid bytes)
-        (subst (λ l. 8 ≤ length l) (take_all (length bytes - mid) (drop mid bytes) (omega (arith, length-drop mid bytes))) enough)
+  abbrev lows : List ℕ
+  lows = take 8 (drop mid bytes)
 
+  pub all_digits : AllDigits 10 highs → AllDigits 10 lows → AllDigits 10 (take (end - from) (drop from bytes))
+  all_digits h l = subst (AllDigits 10) (sym parts) (all_append highs lows h l)
+
+  pub all_value : 8 ≤ length (drop mid bytes) → high ≡ digits_value 10 highs → low ≡ digits_value 10 lows
+      → high * 100000000 + low ≡ digits_value 10 (take (end - from) (drop from bytes))
+  all_value enough h l =
+      let eight : length lows ≡ 8 = length-take-le 8 (drop mid bytes) enough in
+      let value : digits_value 10 (take (end - from) (drop from bytes)) ≡ digits_value_after 10 (digits_value 10 highs) lows =
+      ap (digits_value 10) parts ∙ after_append 0 highs lows in
+      let same : digits_value_after 10 (digits_value 10 highs) lows ≡ digits_value_after 10 high lows =
+      ap (λ n. digits_value_after 10 n lows) (sym h) in
+      let more : digits_value_after 10 high lows ≡ high * 100000000 + digits_value 10 lows =
+      after_more high lows ∙ ap (λ n. high * 10 ^ n + digits_value 10 lows) eight in
+      omega (arith, value, same, more, l)
+
+  module _ (enough : 8 ≤ length rest) where
     pub both_digits : AllDigits 10 highs → AllDigits 10 (take (8 - 0) (drop 0 rest)) → AllDigits 10 (take (end - from) (drop from bytes))
-    both_digits h l =
-        subst (AllDigits 10) (sym parts) (all_append highs (take 8 (drop mid bytes)) h (subst (AllDigits 10) last l))
+    both_digits h l = all_digits h (subst (AllDigits 10) last l)
 
     pub both_value : high ≡ digits_value 10 highs → low ≡ digits_value 10 (take (8 - 0) (drop 0 rest))
         → high * 100000000 + low ≡ digits_value 10 (take (end - from) (drop from bytes))
     both_value h l =
-        let lows = take 8 (drop mid bytes) in
-        let value : digits_value 10 (take (end - from) (drop from bytes)) ≡ digits_value_after 10 (digits_value 10 highs) lows =
-        ap (digits_value 10) parts ∙ after_append 0 highs lows in
-        let same : digits_value_after 10 (digits_value 10 highs) lows ≡ digits_value_after 10 high lows =
-        ap (λ n. digits_value_after 10 n lows) (sym h) in
-        let more : digits_value_after 10 high lows ≡ high * 100000000 + digits_value 10 lows =
-        after_more high lows ∙ ap (λ n. high * 10 ^ n + digits_value 10 lows) eight in
-        omega (arith, value, same, more, l ∙ ap (digits_value 10) last)
+        all_value (subst (λ r. 8 ≤ length r) (take_all (length bytes - mid) (drop mid bytes) (omega (arith, length-drop mid bytes))) enough) h
+        (l ∙ ap (digits_value 10) last)

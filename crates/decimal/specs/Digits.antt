@@ -22,6 +22,12 @@ pub record AreLeadingDigits (bytes : List ℕ) (from : ℕ) (found : ℕ × ℕ)
   pub longest : found.1 < length bytes → is_ascii_digit (slice_index bytes found.1) ≡ true
       → (found.1 ≡ from + 20) ⊎ (2 ^ 64 ≤ found.0 * 10 + (slice_index bytes found.1 - 48))
 
+-- the eight bytes from a place on are digits of this value
+pub record IsEight (bytes : List ℕ) (from value : ℕ) : Type 0 where
+  pub within : from + 8 ≤ length bytes
+  pub digits : AllDigits 10 (take 8 (drop from bytes))
+  pub value_is : value ≡ digits_value 10 (take 8 (drop from bytes))
+
 -- the word of the first eight bytes, with zero digits in place of those before a place
 pub record IsWithZeros (bytes : List ℕ) (from word : ℕ) : Type 0 where
   pub enough : 8 ≤ length bytes

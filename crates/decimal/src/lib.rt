@@ -19,5 +19,5 @@ mod word;
 mod writing;
 
 pub use four::{FourNumbers, four_numbers, four_numbers_between};
-pub use number::{digits, number_between};
+pub use number::{digits, number_between, number_with_last};
 pub use writing::put_digits;

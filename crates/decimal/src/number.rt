@@ -4,7 +4,7 @@ ghost use Rattle.std.specs.Prelude.{◌≡◌, ◌+◌, ◌-◌, ◌*◌, ◌^�
 ghost use Rattle.std.specs.Prelude.{true, false, IfSome};
 ghost use Rattle.std.specs.Int.{w64, to_le_bytes};
 ghost use Rattle.std.specs.Str.Parse.{digits_value, AllDigits};
-ghost use Rattle.decimal.specs.Digits.{AreDigits, AreLeadingDigits, IsWithZeros};
+ghost use Rattle.decimal.specs.Digits.{AreDigits, AreLeadingDigits, IsEight, IsWithZeros};
 ghost use Rattle.decimal.specs.declared.number.TheConstants.{MOST};
 
 use crate::word::{number_of_len, short_number};
@@ -225,6 +225,24 @@ pub fn number_between(bytes: &[u8], from: usize, end: usize) -> Option<u64>
     } else {
         long_between(bytes, from, end)
     }
+}
+
+/// The number that is written before a place, as `number_between` finds it, if eight digits end
+/// there: `mid` is the place of the first of them, and `last` is their value.
+#[inline(always)]
+pub fn number_with_last(bytes: &[u8], from: usize, mid: usize, last: u64) -> Option<u64>
+    requires place { (0 < mid) × (mid ≤ 16) }
+    requires sign { from ≤ 1 }
+    requires last { IsEight bytes.now mid last }
+    ensures digits { IfSome result
+        (λ _. AllDigits 10 (take (mid + 8 - from) (drop from bytes.now))) }
+    ensures value { IfSome result
+        (λ v. v ≡ digits_value 10 (take (mid + 8 - from) (drop from bytes.now))) }
+{
+    let high = number_between(bytes, from, mid)?;
+    let shifted = high.checked_mul(100_000_000)?;
+    let all = shifted.checked_add(last)?;
+    Some(all)
 }
 
 /// The value of the decimal digits from the place `from` on, at most 20 of them and as far as it

@@ -7,6 +7,7 @@ use Rattle.std.proofs.Common.{length-drop}
 use Rattle.window_numbers.specs.declared.cursor.Cursor.{Cursor}
 use Rattle.window_numbers.specs.Cursors.{tokens_from_cursor, is_begun, Passes, PassesToken}
 use Rattle.window_numbers.specs.Numbers.{StandInFront, cursor_to}
+use Rattle.window_numbers.specs.Values.{held}
 use Rattle.window_numbers.specs.declared.numbers.Numbers.{Numbers}
 use Rattle.window_numbers.proofs.HeldNumbers.{next_number}
 use Rattle.window_numbers.proofs.PassedNumbers.{ComesNext, passes_none, passes_nothing, passes_one, begun_counted}
@@ -41,26 +42,26 @@ module _ {P A F : Type 0} (row : P → Token → Row P A F) (first mid last : P)
 module _ (n : Numbers) (bytes : List ℕ) (f : StandInFront n bytes) (from : Cursor) (at_front : from.at ≡ 0) (small : from.line < 2 ^ 64)
     {P A F : Type 0} (row : P → Token → Row P A F) (first : P) where
   between : (c : ℕ) → n.first + c < n.known
-      → ComesNext bytes (cursor_to n bytes from c) (cursor_to n bytes from (suc c)) (token_at n.values (n.first + c))
+      → ComesNext bytes (cursor_to n bytes from c) (cursor_to n bytes from (suc c)) (token_at (held n) (n.first + c))
   between c few = next_number n bytes f from at_front small c few
 
   gapped : (next : P) (c : ℕ) (few : n.first + c < n.known) → Passes (LeadOn row first next) bytes from (cursor_to n bytes from c)
       → Passes (LeadOn row first next) bytes from (between c few).mid
   gapped next c few s = passes_nothing bytes (LeadOn row first next) from (cursor_to n bytes from c) (between c few).mid s (between c few).gap
 
-  passes_by : (next : P) (count : ℕ) → (0 < count → n.first + count ≤ n.known) → LeadsBy row first next n.values n.first count
+  passes_by : (next : P) (count : ℕ) → (0 < count → n.first + count ≤ n.known) → LeadsBy row first next (held n) n.first count
       → Passes (LeadOn row first next) bytes from (cursor_to n bytes from count)
   passes_by next zero few e =
       subst (λ s. Passes (LeadOn row first s) bytes from from) e
       (passes_none bytes (LeadOn row first first) from (omega (arith, at_front)) (λ ts. refl))
   passes_by next (suc c) few l =
       let less : n.first + c < n.known = omega (arith, few (omega arith)) in
-      passes_on row first l.0 next bytes from (cursor_to n bytes from (suc c)) (between c less).mid (token_at n.values (n.first + c)) l.2
+      passes_on row first l.0 next bytes from (cursor_to n bytes from (suc c)) (between c less).mid (token_at (held n) (n.first + c)) l.2
       (gapped l.0 c less (passes_by l.0 c (λ some. omega (arith, less)) l.1)) (between c less).number
 
   -- if a grammar took some of the numbers, it passed their bytes
   pub takes_passes : (next : P) (count : ℕ) (answer : Option A) → (0 < count → n.first + count ≤ n.known)
-      → TakesOver row first next n.values n.first (n.first + count) answer
+      → TakesOver row first next (held n) n.first (n.first + count) answer
       → PassesAll row first next bytes from (cursor_to n bytes from count) answer
   takes_passes next count None few l =
       let same : l.count ≡ count = omega (arith, l.counted) in
@@ -71,11 +72,11 @@ module _ (n : Numbers) (bytes : List ℕ) (f : StandInFront n bytes) (from : Cur
       let less : n.first + t.leads.count < n.known = omega (arith, few (omega (arith, same)), same) in
       subst (λ k. PassesAll row first next bytes from (cursor_to n bytes from k) (Some a)) same (record {
         last = t.last;
-        token = token_at n.values (n.first + t.leads.count);
+        token = token_at (held n) (n.first + t.leads.count);
         here = (between t.leads.count less).mid;
         leads = gapped t.last t.leads.count less (passes_by t.last t.leads.count (λ some. omega (arith, less)) t.leads.leads);
         passes = (between t.leads.count less).number;
-        ends = ap (λ k. row t.last (token_at n.values k)) (sym t.leads.counted) ∙ t.ends;
+        ends = ap (λ k. row t.last (token_at (held n) k)) (sym t.leads.counted) ∙ t.ends;
       })
 
 -- ---- a scanner that goes to where a grammar came

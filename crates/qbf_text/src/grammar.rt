@@ -11,13 +11,14 @@ ghost use Rattle.qbf_text.specs.Ahead.{ahead};
 ghost use Rattle.qbf_text.specs.TakenNumbers.{TakesOver};
 ghost use Rattle.qbf_text.specs.Passing.{ReadsBuffered};
 ghost use Rattle.qbf_text.specs.Stopping.{tokens_next, Stops};
+ghost use Rattle.window_numbers.specs.Values.{held, numbers_of};
 ghost use Rattle.window_numbers.specs.declared.numbers.TheConstants.{MOST};
 
 use crate::scanner::{ScanFault, Scanner};
 use crate::source::Source;
 use qbf_tokens::{Comments, Token};
 use std::alloc::AllocError;
-use window_numbers::{Numbers, Zeros};
+use window_numbers::{Numbers, Values, Zeros};
 
 /// The result of a grammar for a token that it took.
 #[derive(Drop)]
@@ -141,12 +142,12 @@ pub trait Grammar {
     /// Out of memory.
     fn take_numbers(
         &mut self,
-        values: &[i32],
+        values: Values,
         zeros: Zeros,
     ) -> Result<Progress<Self::Output>, AllocError>
         ensures takes { IfOk result (λ r. TakesOver row_of (state self.old) (state self.new)
-            values.now 0 r.0 r.1) }
-        ensures within { IfOk result (λ r. r.0 ≤ length values.now) }
+            (numbers_of values.entry) 0 r.0 r.1) }
+        ensures within { IfOk result (λ r. r.0 ≤ length (numbers_of values.entry)) }
         ensures kept { kept self.new ≡ kept self.old };
 
     /// Takes the next token. After the end of the text it does not go on.
@@ -169,7 +170,7 @@ fn take_known<G: Grammar>(
     requires some { numbers.now.first < numbers.now.known }
     requires few { numbers.now.known ≤ MOST }
     ensures takes { IfOk result (λ r. TakesOver G.row_of (G.state grammar.old) (G.state grammar.new)
-        numbers.now.values numbers.now.first (numbers.now.first + r.0) r.1) }
+        (held numbers.now) numbers.now.first (numbers.now.first + r.0) r.1) }
     ensures within { IfOk result (λ r. 0 < r.0 → numbers.now.first + r.0 ≤ numbers.now.known) }
     ensures kept { G.kept grammar.new ≡ G.kept grammar.old }
 {

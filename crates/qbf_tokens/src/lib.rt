@@ -3,7 +3,7 @@
 //!
 //! - Owns: tokens, and which bytes spell them.
 //! - Offers: `Token`, `Word`, `Comments`; `is_separator`; `Run`, `Numeral`, `Spelling`,
-//!   `begins_number`; `Token::number_at`.
+//!   `begins_number`.
 //! - Proved: the kind of a run, kept while its bytes are read, whatever its length; tokens that are
 //!   written are read again.
 //! - Read first: `Token`, and the definition `tokens`; `Run::kind`.

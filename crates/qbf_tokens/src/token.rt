@@ -67,21 +67,3 @@ impl Comments {
         }
     }
 }
-
-impl Token {
-    ghost use Rattle.std.specs.Prelude.{◌≡◌, ◌<◌, length};
-    ghost use Rattle.qbf_tokens.specs.NumberTokens.{token_at};
-
-    /// The token of the number at a place of a list.
-    #[inline(always)]
-    pub fn number_at(values: &[i32], place: usize) -> Token
-        requires { place < length values.now }
-        ensures { result ≡ token_at values.now place }
-    {
-        let value = values[place];
-        Token::Number {
-            negative: value < 0,
-            value: u64::from(value.unsigned_abs()),
-        }
-    }
-}

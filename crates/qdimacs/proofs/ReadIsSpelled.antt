@@ -3,8 +3,8 @@ use Rattle.qdimacs.proofs.Cited.{common_steps, rules, inl, inr, ◌⊎◌, ◌�
 use Rattle.qdimacs.proofs.Cited.{sym, subst, ◌∙◌, arith, append_assoc, map-append, flat_map, Quantifier, Block, is_bound, blocks_of, Token}
 use Rattle.qdimacs.proofs.Cited.{Lined, number, set, without_lines, Ends, append-nil, pairs_of_block, pairs-blocks_of, Alternates-blocks_of}
 use Rattle.qdimacs.proofs.Cited.{is_end, push_distinct, flat_map-push, decode_member, header, IsFormula, ReadsAsRead, all_of, explained}
-use Rattle.qdimacs.proofs.Cited.{ResultsAreRead, Reads, Goes, Fails, Heading, State, AtP, InHeader, Between, InSet, Whole, Row, row, faults}
-use Rattle.qdimacs.proofs.Cited.{set_row, Spells, read, IsWhole, result_of, Pairs, Clauses}
+use Rattle.qdimacs.proofs.Cited.{Reads, Goes, Fails, Heading, State, AtP, InHeader, Between, InSet, Whole, Row, row, faults}
+use Rattle.qdimacs.proofs.Cited.{set_row, Spells, read, IsWhole, Pairs, Clauses}
 use Rattle.dimacs_syntax.proofs.Cited.{IsDistinct}
 use Rattle.dimacs_syntax.proofs.Cited.token
 use Rattle.qbf_tokens.specs.Lined.{EndsOnce}

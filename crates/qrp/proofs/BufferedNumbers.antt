@@ -1,26 +1,28 @@
 -- Where buffered numbers lead to.
 use Rattle.qrp.proofs.Cited.{leads_none, leads_more, leads_further, arith, common_steps, ◌≡◌, ◌≤◌, ◌<◌, ℕ, suc, ◌+◌, ◌-◌, List, [], ◌∷◌}
-use Rattle.qrp.proofs.Cited.{◌++◌, Some, Ok, ap, ◌∙◌, append_assoc, length, map, Literal, IsLiteral}
+use Rattle.qrp.proofs.Cited.{◌++◌, Option, Some, Result, Ok, Err, ap, ◌∙◌, append_assoc, length, map, Literal, IsLiteral}
 use Rattle.qrp.proofs.Cited.{AllByRecursion, all_appended}
-use Rattle.std.specs.Prelude.{ℤ, pos, unsigned_abs, int_lt, slice_index_or, slice_range, Bool}
+use Rattle.std.proofs.Common.{None}
+use Rattle.std.specs.Prelude.{ℤ, IfOk, pos, unsigned_abs, int_lt, slice_index_or, slice_range, Bool}
 use Rattle.qbf_core.specs.WrittenLiterals.{literal_of, IsWritten}
 use Rattle.qbf_text.specs.TakenNumbers.{LeadsOver}
 use Rattle.qbf_tokens.specs.NumberTokens.{token_of, token_at}
 use Rattle.qbf_tokens.specs.declared.token.Token.TheVariants.{Number}
 use Rattle.dimacs_syntax.specs.Decode.{decode_literal, decode_member}
 use Rattle.qbf_core.specs.declared.quantifier.Quantifier.{Quantifier}
-use Rattle.qrp.specs.Reading.{State, row, faults, set_row, lits_row, ants_row, decode_antecedent, has_room, InSet, InLits, InAnts}
+use Rattle.qbf_text.proofs.LeadingNumbers.{takes_further}
+use Rattle.qbf_text.specs.Rows.{Goes}
+use Rattle.qrp.specs.declared.states.Lists.{Lists}
+use Rattle.qrp.specs.declared.states.Part.{Part}
+use Rattle.qrp.specs.declared.states.State as states
+use Rattle.qrp.specs.States.{completed, state_at, Arrives, Moves}
+use Rattle.qrp.specs.Reading.{State, Row, row, faults, set_row, lits_row, InSet, InLits, InAnts}
 
 module _ (first : State) (values : List ℤ) (from i : ℕ) (ns : List ℕ) (n : ℕ) (ls : List Literal) where
   -- a literal more
   pub literal_more : (l : Literal) → Ok (Some l) ≡ decode_literal faults 2147483647 (token_at values i)
       → LeadsOver row first (InLits ns n ls) values from i → LeadsOver row first (InLits ns n (ls ++ l ∷ [])) values from (i + 1)
   literal_more l says = grind (arith, common_steps, leads_more, row, lits_row)
-
-  -- an antecedent more
-  pub antecedent_more : (ants : List ℕ) (a : ℕ) → Ok (Some a) ≡ decode_antecedent (has_room ants) (token_at values i)
-      → LeadsOver row first (InAnts ns n ls ants) values from i → LeadsOver row first (InAnts ns n ls (ants ++ a ∷ [])) values from (i + 1)
-  antecedent_more ants a says = grind (arith, common_steps, leads_more, row, ants_row)
 
 -- a variable of a set more
 pub member_more : (first : State) (values : List ℤ) (from i : ℕ) (q : Quantifier) (vs : List ℕ) (v : ℕ)
@@ -88,5 +90,22 @@ written_literals (x ∷ xs) all = (all.0, written_literals xs all.1)
 pub more_literals : (ls : List Literal) (xs : List ℤ) → AllByRecursion IsLiteral ls → AllByRecursion (IsWritten 2147483647) xs
     → AllByRecursion IsLiteral (ls ++ map literal_of xs)
 more_literals ls xs all written = all_appended IsLiteral ls (map literal_of xs) all (written_literals xs written)
+
+-- a token that completes nothing leads on
+pub goes_on : (r : Row) (b : Lists) (next : states.State) → completed next ≡ None → Moves r b (Ok next) → r ≡ Goes (state_at b next)
+goes_on r b next none m = grind (arith, common_steps)
+
+-- numbers lead on, and others after them arrive, unless an allocation fails
+arrives_further : (first mid : State) (b : Lists) (next : states.State) (values : List ℤ) (from i to : ℕ) (o : Option Part)
+    → LeadsOver row first mid values from i → Arrives mid b next values i to o → Arrives first b next values from to o
+arrives_further first mid b next values from i to None l a = leads_further row first mid (state_at b next) values from i to l a
+arrives_further first mid b next values from i to (Some p) l a =
+    (a.0, takes_further row first mid (state_at b next) values from i to (Some tt) l a.1)
+
+pub arrives_in_turn : {E : Type 0} (first mid : State) (b : Lists) (next : states.State) (values : List ℤ) (from i : ℕ)
+    (result : Result (ℕ × Option Part) E) → LeadsOver row first mid values from i
+    → IfOk result (λ r. Arrives mid b next values i r.0 r.1) → IfOk result (λ r. Arrives first b next values from r.0 r.1)
+arrives_in_turn first mid b next values from i (Ok r) l a = arrives_further first mid b next values from i r.0 r.1 l a
+arrives_in_turn first mid b next values from i (Err e) l a = tt
 
 pub ruleset numbers_lead_on = (leads_none, leads_more, leads_further)

@@ -3,8 +3,8 @@ use Rattle.qrp.proofs.Cited.{arith, common_steps, ◌≡◌, ◌≤◌, ℕ, suc
 use Rattle.qrp.proofs.Cited.{append_assoc, zero, refl, ap, sym, ◌∙◌, append-nil, Qrp, Lined, Token, ahead, left, tokens, tokens_next, ReadError}
 use Rattle.qrp.proofs.Cited.{fault_of, Read, Reading, Cut, read-one, reads_from, IfKnown, Stops, Leaves, Reads, TraceFault, P1, P7, P9}
 use Rattle.qrp.proofs.Cited.{reads_bytes, Gives, StopsAfterResult, Derivation, with_item, Stays, leads_further, leads_more}
-use Rattle.std.specs.Prelude.{ℤ, pos, slice_index_or, IfOk}
-use Rattle.std.proofs.Common.{None}
+use Rattle.std.specs.Prelude.{ℤ, pos, int_lt, unsigned_abs, slice_index_or, IfOk}
+use Rattle.std.proofs.Common.{None, Bool}
 use Rattle.dimacs_syntax.proofs.Cited.{read_from}
 use Rattle.dimacs_syntax.proofs.Cited.token
 use Rattle.qbf_text.specs.TakenNumbers.{LeadsBy, LeadsOver}
@@ -19,7 +19,10 @@ use Rattle.qrp.specs.declared.states.State.TheVariants as at
 use Rattle.qrp.specs.declared.states.Part.TheVariants as part
 use Rattle.qrp.specs.declared.states.Lists.{Lists}
 use Rattle.qrp.specs.Flat.{kept_of, trace_of, ClosesPart}
-use Rattle.qrp.specs.States.{item_of}
+use Rattle.qrp.specs.States.{item_of, numbers_after, state_at, Arrives}
+use Rattle.qrp.specs.declared.item.Outcome.{Outcome}
+use Rattle.qrp.specs.declared.states.Part.{Part}
+use Rattle.qrp.specs.declared.states.State as states
 use Rattle.qrp.specs.Reading.{Fault, State, Row, Between, After, row, items_from, with_items, nothing, read_trace}
 use Rattle.qrp.specs.WholeTrace.{TraceRead, made_of, nothing_read, kept_row, trace_at, trace_row}
 use Rattle.qrp.proofs.SpelledIsRead.{after, items-one, end_row}
@@ -138,12 +141,38 @@ pub step_leads : {A : Type 0} (lists : A → List (List ℕ)) (p : Parts A) (b :
     (record { made = trace_of (kept_of lists (record p { lists = b })); state = next }) values from to
 step_leads lists p b first next values from to stays l = grind (arith, common_steps, kept_leads, trace_of, kept_of)
 
+-- no number is the result
+no_result : (state : State) (negative : Bool) (m : ℕ) (o : Outcome) (ns : List ℕ)
+    → row state (token.Number negative m) ≡ rows.Ends tt (After (item.Result o) ns) → ⊥
+no_result state negative m o ns ends = grind (arith, common_steps)
+
+-- a part that a number completes is kept
+kept_end : (d : Derivation) (b : Lists) (p : Part) (state : State) (v : ℤ) → row state (token_of v) ≡ rows.Ends tt (state_at b (at.After p))
+    → trace_row (record { made = d; state = state }) (token_of v)
+    ≡ rows.Goes (record { made = with_item d (item_of b p); state = Between (numbers_after b p) })
+kept_end d b (part.Header h) state v ends = ap (kept_row d) ends
+kept_end d b (part.Set q) state v ends = ap (kept_row d) ends
+kept_end d b (part.Step n) state v ends = ap (kept_row d) ends
+kept_end d b (part.Result o) state v ends = absurd (no_result state (int_lt v (pos 0)) (unsigned_abs v) o b.index ends)
+
 -- a step that a zero completes is kept
 pub step_kept : {A : Type 0} (lists : A → List (List ℕ)) (first : TraceRead) (old new : Parts A) (n : ℕ) (values : List ℤ) (from i : ℕ) → slice_index_or values i (pos 0) ≡ pos 0
     → LeadsOver trace_row first (trace_at lists old (at.InAnts n)) values from i → ClosesPart lists old new (part.Step n)
     → LeadsOver trace_row first (trace_at lists new at.Between) values from (i + 1)
 step_kept lists first old new n values from i is leads closes =
     grind (arith, common_steps, trace_at, with_item, trace_of, kept_of, item_of, leads_more, trace_row, token_of)
+
+-- a part that numbers complete is kept
+pub part_kept : {A : Type 0} (lists : A → List (List ℕ)) (p new : Parts A) (b : Lists) (first : State) (next : states.State) (q : Part)
+    (values : List ℤ) (from to : ℕ) → Stays p.lists b → Arrives first b next values from to (Some q)
+    → ClosesPart lists (record p { lists = b }) new q
+    → LeadsOver trace_row (record { made = trace_of (kept_of lists p); state = first }) (trace_at lists new at.Between) values from to
+part_kept lists p new b first next q values from to stays a closes =
+    let e = a.1 in
+    let d = trace_of (kept_of lists (record p { lists = b })) in
+    let ends = kept_end d b q e.last (slice_index_or values e.at (pos 0)) (rw a.0 at e.ends) in
+    rw (closes.made, closes.numbers, e.to_is) (leads_more trace_row _ (record { made = d; state = e.last }) _ values from e.at ends
+    (step_leads lists p b first e.last values from e.at stays e.leads))
 
 -- numbers lead on, and others after them, unless an allocation fails
 pub trace_in_turn : {E : Type 0} (first mid next : TraceRead) (values : List ℤ) (from i : ℕ) (result : Result ℕ E)

@@ -1,5 +1,5 @@
 -- The states of reading a trace, each made of the unfinished lists.
-use Rattle.std.specs.Prelude.{◌≡◌, ◌<◌, ◌≤◌, ◌^◌, ℕ, false, List, [], ◌∷◌, ◌++◌, length, Result, Ok, Err, ⊤}
+use Rattle.std.specs.Prelude.{◌≡◌, ◌<◌, ◌≤◌, ◌^◌, ℕ, ℤ, false, List, [], ◌∷◌, ◌++◌, length, Option, Some, None, Result, Ok, Err, ⊤}
 use Rattle.dimacs_syntax.specs.Cited.{AllByRecursion, IsVariable}
 use Rattle.qbf_text.specs.declared.grammar.Stop.{Stop}
 use Rattle.qbf_text.specs.declared.grammar.Stop.TheVariants as stop
@@ -14,7 +14,8 @@ use Rattle.qrp.specs.declared.states.Part.TheVariants as part
 use Rattle.step_antecedents.specs.Antecedents.{list_of_pair}
 use Rattle.qrp.specs.Inferences.{IsLiteral, IsNumber}
 use Rattle.qbf_text.specs.Rows.{Goes, Ends, Fails}
-use Rattle.qrp.specs.Reading.{State, Row, InHeader, Between, InSet, InLits, InAnts, AtResult, After}
+use Rattle.qbf_text.specs.TakenNumbers.{LeadsOver, EndsOver}
+use Rattle.qrp.specs.Reading.{State, Row, row, InHeader, Between, InSet, InLits, InAnts, AtResult, After}
 use Rattle.step_index.specs.Numbers.{is_used}
 
 -- the item of a part
@@ -45,6 +46,16 @@ Moves r b (Ok (at.After p)) = r ≡ Ends tt (state_at b (at.After p))
 Moves r b (Ok next) = r ≡ Goes (state_at b next)
 Moves r b (Err stop.Memory) = ⊤
 Moves r b (Err (stop.Text f)) = r ≡ Fails f
+
+-- the part that is complete
+abbrev pub completed : states.State → Option Part
+completed (at.After p) = Some p
+completed here = None
+
+-- numbers lead to the next state, or the last of them completes a part
+abbrev pub Arrives : State → Lists → states.State → List ℤ → (from to : ℕ) → Option Part → Type 0
+Arrives first b next values from to None = LeadsOver row first (state_at b next) values from to
+Arrives first b next values from to (Some p) = (next ≡ at.After p) × EndsOver row first (state_at b next) tt values from to
 
 -- whole lists and the numbers of whole steps are as they were
 pub record Stays (old new : Lists) : Type 0 where
@@ -80,7 +91,8 @@ IsSound (at.InAnts n) b = IsComplete (part.Step n) b
 IsSound at.AtResult b = ⊤
 IsSound (at.After p) b = IsComplete p b
 
--- after a token: the invariant of the new state, with the complete lists unchanged; on a fault the old invariant
+-- after a token: the invariant of the new state, with the complete lists unchanged; a fault of the text changes nothing
 abbrev pub Leads : states.State → Lists → Lists → Result states.State (Stop TraceFault) → Type 0
 Leads here old new (Ok next) = Stays old new × IsSound next new
-Leads here old new (Err e) = Stays old new × (IsSound here old → IsSound here new)
+Leads here old new (Err stop.Memory) = Stays old new × IsSound here new
+Leads here old new (Err (stop.Text f)) = new ≡ old

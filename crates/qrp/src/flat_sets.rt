@@ -79,6 +79,7 @@ impl FlatSets {
     ///
     /// # Errors
     /// Out of memory. Nothing is changed then.
+    #[inline(always)]
     #[tactic(auto, using(crate::proofs::SetLists::sets_more))]
     pub fn push(&mut self, quantifier: Quantifier, vars: &[Var]) -> Result<(), AllocError>
         ensures pushed { OnOk result (self.new

@@ -5,11 +5,11 @@ ghost use Rattle.qrp.specs.Flat.{kept_of, lent, nothing_kept, IsFlat};
 ghost use Rattle.qrp.specs.Items.{HasItem, GivesItem};
 ghost use Rattle.qrp.specs.Reading.{AtP};
 
+use crate::buffered_numbers::{NextPlaces, take_part};
 use crate::fault::TraceFault;
 use crate::item::{Item, QuantSet, Step};
 use crate::parts::Parts;
 use crate::states::{Lists, Part, State, take_at};
-use crate::step_numbers::{NextPlaces, completed, take_buffered};
 use dimacs_syntax::HeaderAt;
 use qbf_core::GrowingLists;
 use qbf_text::{Grammar, Progress, Stop, Taken};
@@ -17,7 +17,7 @@ use qbf_tokens::Token;
 use std::alloc::{AllocError, Global};
 use std::marker::Model;
 use std::mem;
-use window_numbers::Zeros;
+use window_numbers::{Values, Zeros};
 
 /// A trace whose parts are given one after the other.
 ///
@@ -112,16 +112,14 @@ impl Grammar for ItemGrammar {
     ghost kept = { λ g. g.kept };
 
     #[inline(always)]
-    fn take_numbers(&mut self, values: &[i32], zeros: Zeros) -> Result<Progress<()>, AllocError> {
+    fn take_numbers(&mut self, values: Values, zeros: Zeros) -> Result<Progress<()>, AllocError> {
         let next = NextPlaces::new(0, zeros, 0);
-        let (state, reached) = take_buffered(self.state, &mut self.parts.lists, values, next);
+        let (state, reached) = take_part(self.state, &mut self.parts.lists, values, next);
         self.state = state;
-        let to = reached?;
-        let Some(number) = completed(state, values, to) else {
-            return Ok((to, None));
-        };
-        self.state = State::After(Part::Step(number));
-        Ok((to + 1, Some(())))
+        match reached? {
+            (to, Some(_)) => Ok((to, Some(()))),
+            (to, None) => Ok((to, None)),
+        }
     }
 
     #[inline(always)]

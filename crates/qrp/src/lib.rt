@@ -15,6 +15,7 @@
 //! - On the map: read_trace, write_trace | the trace, or its first fault, P1 to P9.
 #![tactic(auto)]
 
+mod buffered_numbers;
 mod compact_trace;
 mod fault;
 mod flat_sets;
@@ -25,7 +26,6 @@ mod laws;
 mod parts;
 mod reader;
 mod states;
-mod step_numbers;
 mod steps;
 mod tokens;
 mod trace;

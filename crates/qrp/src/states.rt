@@ -125,6 +125,7 @@ fn take_antecedent(lists: &mut Lists, number: u64, token: Token) -> Transition
 }
 
 /// Takes a token in a set.
+#[inline(always)]
 fn take_member(lists: &mut Lists, quantifier: Quantifier, token: Token) -> Transition
     requires sound { IsSound (at.InSet quantifier) lists.old }
     ensures row { Moves (row (state_at lists.old (at.InSet quantifier)) token) lists.new result }

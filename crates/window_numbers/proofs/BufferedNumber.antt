@@ -24,6 +24,11 @@ first_digit d ds h = and_left (is_ascii_digit d) (all_ascii_digits ds) (own.from
 digit_begins : (d : ℕ) → is_ascii_digit d ≡ true → (d == 45 || is_ascii_digit d) ≡ true
 digit_begins d h = grind (arith, nat_tests)
 
+-- a sign takes one byte at most
+pub one_at_most : (start : ℕ) (negative : Bool) → start ≡ bool_byte negative → start ≤ 1
+one_at_most start true e = omega (arith, e)
+one_at_most start false e = omega (arith, e)
+
 -- digits before a separator
 plain : (b : ℕ) (bs : List ℕ) (end : ℕ) → end < length (b ∷ bs) → AllDigits 10 (take end (b ∷ bs)) → 0 < end
     → digits_value 10 (take end (b ∷ bs)) < 2 ^ 64

@@ -11,6 +11,7 @@ use Rattle.window_numbers.specs.Cursors.{cursor_after, one_if, PassesToken}
 use Rattle.qbf_tokens.specs.NumberTokens.{token_at}
 use Rattle.window_numbers.specs.Numbers.{place, len_of, NumberStands, StandFrom, AreHeld, StandInFront}
 use Rattle.window_numbers.specs.Numbers.{cursor_to, IsPut, FillsTo, ComesNumber}
+use Rattle.window_numbers.specs.Values.{held}
 use Rattle.window_numbers.proofs.Gaps.{after_gap, gap_at, gap_line, line_on, rest_there, gap_within, gap_passed}
 use Rattle.window_numbers.proofs.LineEnds.{counted, more, one_after}
 use Rattle.std.proofs.Math.Seq.{take-append-add}
@@ -31,7 +32,7 @@ module _ (n : Numbers) (whole : List ℕ) (start : ℕ) (h : AreHeld n whole sta
       let before = rises c (omega (arith, few)) in
       let s = h.stand (n.first + c) (omega arith) (omega (arith, few)) in
       let next : n.first + suc c ≡ n.first + c + 1 = omega arith in
-      let more_there = further whole n.places (n.first + c) (slice_index_or n.values (n.first + c) (pos 0)) s in
+      let more_there = further whole n.places (n.first + c) (slice_index_or (held n) (n.first + c) (pos 0)) s in
       rw next (omega (arith, before, more_there))
 
 -- the numbers from one of them on are held from its place on
@@ -130,14 +131,14 @@ module _ (n : Numbers) (bytes : List ℕ) (f : StandInFront n bytes) (from : Cur
     abbrev len : ℕ
     len = place n (n.first + c + 1) - place n (n.first + c)
 
-    s : NumberStands f.whole n.places (n.first + c) (slice_index_or n.values (n.first + c) (pos 0))
+    s : NumberStands f.whole n.places (n.first + c) (slice_index_or (held n) (n.first + c) (pos 0))
     s = h.stand (n.first + c) (omega arith) few
 
-    abbrev t : ComesNumber (drop (place n (n.first + c)) f.whole) len (slice_index_or n.values (n.first + c) (pos 0))
+    abbrev t : ComesNumber (drop (place n (n.first + c)) f.whole) len (slice_index_or (held n) (n.first + c) (pos 0))
     t = s.1
 
-    number : BeginsWithNumber t.rest (int_lt (slice_index_or n.values (n.first + c) (pos 0)) (pos 0))
-        (unsigned_abs (slice_index_or n.values (n.first + c) (pos 0))) (len - length t.gap) t.number.0
+    number : BeginsWithNumber t.rest (int_lt (slice_index_or (held n) (n.first + c) (pos 0)) (pos 0))
+        (unsigned_abs (slice_index_or (held n) (n.first + c) (pos 0))) (len - length t.gap) t.number.0
     number = t.number.1
 
     some : 0 < len - length t.gap
@@ -149,7 +150,7 @@ module _ (n : Numbers) (bytes : List ℕ) (f : StandInFront n bytes) (from : Cur
     reaches : len_of n (suc c) ≡ len_of n c + len
     reaches =
         let up = rises n f.whole f.start h c (omega (arith, few)) in
-        let more_there = further f.whole n.places (n.first + c) (slice_index_or n.values (n.first + c) (pos 0)) s in
+        let more_there = further f.whole n.places (n.first + c) (slice_index_or (held n) (n.first + c) (pos 0)) s in
         let next : n.first + suc c ≡ n.first + c + 1 = omega arith in rw next (omega (arith, up, more_there))
 
     front : take len (drop (len_of n c) bytes) ≡ t.gap ++ (number.run ++ number.separator ∷ [])
@@ -228,7 +229,7 @@ module _ (n : Numbers) (bytes : List ℕ) (f : StandInFront n bytes) (from : Cur
   within zero few = omega (arith, at_front)
   within (suc c) few =
       let number_there = s c (omega (arith, few)) in
-      let more_there = further f.whole n.places (n.first + c) (slice_index_or n.values (n.first + c) (pos 0)) number_there in
+      let more_there = further f.whole n.places (n.first + c) (slice_index_or (held n) (n.first + c) (pos 0)) number_there in
       let next : n.first + suc c ≡ n.first + c + 1 = omega arith in
       let front_there = h.front (omega (arith, few)) in
       let all : length bytes ≡ length f.whole - f.start = ap length f.rest ∙ length-drop f.start f.whole in
@@ -241,9 +242,9 @@ module _ (n : Numbers) (bytes : List ℕ) (f : StandInFront n bytes) (from : Cur
 
   -- one number more, after separators
   pub next_number : (c : ℕ) → n.first + c < n.known
-      → ComesNext bytes (cursor_to n bytes from c) (cursor_to n bytes from (suc c)) (token_at n.values (n.first + c))
+      → ComesNext bytes (cursor_to n bytes from c) (cursor_to n bytes from (suc c)) (token_at (held n) (n.first + c))
   next_number c few =
-      let v = slice_index_or n.values (n.first + c) (pos 0) in
+      let v = slice_index_or (held n) (n.first + c) (pos 0) in
       let g = t c few in
       let there_to = within c (omega (arith, few)) in
       let from_there = rest_there bytes (here c few) g.gap g.rest (there c few) there_to in
@@ -252,7 +253,7 @@ module _ (n : Numbers) (bytes : List ℕ) (f : StandInFront n bytes) (from : Cur
       record {
         mid = mid c few;
         gap = gap_passed bytes (here c few) g.gap g.rest (there c few) there_to g.is_gap;
-        number = subst (λ to. PassesToken bytes (mid c few) to (token_at n.values (n.first + c))) (next_is c few)
+        number = subst (λ to. PassesToken bytes (mid c few) to (token_at (held n) (n.first + c))) (next_is c few)
             (passes_number bytes (mid c few) _ _ _ g.number.0 stands (mid_small c few)
             (gap_within bytes (here c few) g.gap g.rest (there c few) there_to));
       }
@@ -279,8 +280,8 @@ before_or_after j k = elim (split (nat_lt j k) refl) [
 
 module _ (n m : Numbers) (whole : List ℕ) (start runs k : ℕ) (values : List ℤ) (f : FillsTo n whole start runs k)
     (some : 0 < length values) (room : k + length values ≤ runs) (stand : StandFrom whole n.places k values)
-    (p : IsPut n.values m.values values k) where
-  each : (j : ℕ) → n.first ≤ j → j < k + length values → NumberStands whole n.places j (slice_index_or m.values j (pos 0))
+    (p : IsPut (held n) (held m) values k) where
+  each : (j : ℕ) → n.first ≤ j → j < k + length values → NumberStands whole n.places j (slice_index_or (held m) j (pos 0))
   each j low high = elim (before_or_after j k) [
     | inl before ↦ rw (p.before j before) (f.stand j low before)
     | inr after ↦
@@ -296,7 +297,7 @@ module _ (n m : Numbers) (whole : List ℕ) (start runs k : ℕ) (values : List 
       let is : k + (length values - 1) + 1 ≡ k + length values = omega (arith, some) in
       subst (λ j. place n j ≤ length whole) is last.0
 
-  fills_with : FillsTo (record n { values = m.values }) whole start runs (k + length values)
+  fills_with : FillsTo (record n { values = m.values; longs = m.longs }) whole start runs (k + length values)
   fills_with = record {
     values_len = p.same_len ∙ f.values_len;
     few = f.few;
@@ -308,16 +309,16 @@ module _ (n m : Numbers) (whole : List ℕ) (start runs k : ℕ) (values : List 
   }
 
 -- some numbers more
-fills_more : (n m : Numbers) (whole : List ℕ) (start runs k l : ℕ) (values : List ℤ) → FillsTo n whole start runs k
-    → length values ≡ l → 0 < l → k + l ≤ runs → StandFrom whole n.places k values → IsPut n.values m.values values k
-    → m ≡ record n { values = m.values } → FillsTo m whole start runs (k + l)
+pub fills_more : (n m : Numbers) (whole : List ℕ) (start runs k l : ℕ) (values : List ℤ) → FillsTo n whole start runs k
+    → length values ≡ l → 0 < l → k + l ≤ runs → StandFrom whole n.places k values → IsPut (held n) (held m) values k
+    → m ≡ record n { values = m.values; longs = m.longs } → FillsTo m whole start runs (k + l)
 fills_more n m whole start runs k l values f len some room stand put is =
     let with_them = fills_with n m whole start runs k values f (omega (arith, some, len)) (omega (arith, room, len)) stand put in
     subst (λ (x : Numbers). FillsTo x whole start runs (k + l)) (sym is)
-    (subst (λ j. FillsTo (record n { values = m.values }) whole start runs (k + j)) len with_them)
+    (subst (λ j. FillsTo (record n { values = m.values; longs = m.longs }) whole start runs (k + j)) len with_them)
 
 -- none of these facts depends on the zeros
-fills_still : (n m : Numbers) (z : List ℕ) (whole : List ℕ) (start runs k : ℕ) → m ≡ record n { zeros = z }
+pub fills_still : (n m : Numbers) (z : List ℕ) (whole : List ℕ) (start runs k : ℕ) → m ≡ record n { zeros = z }
     → FillsTo n whole start runs k → FillsTo m whole start runs k
 fills_still n m z whole start runs k is f = rw is (record {
   values_len = f.values_len;
@@ -331,7 +332,7 @@ fills_still n m z whole start runs k is f = rw is (record {
 
 -- some numbers are put, and then zeros are noted
 pub fills_on : (n p m : Numbers) (whole : List ℕ) (start runs k l : ℕ) (values : List ℤ) → FillsTo n whole start runs k
-    → length values ≡ l → 0 < l → k + l ≤ runs → StandFrom whole n.places k values → IsPut n.values p.values values k
-    → p ≡ record n { values = p.values } → m ≡ record p { zeros = m.zeros } → FillsTo m whole start runs (k + l)
+    → length values ≡ l → 0 < l → k + l ≤ runs → StandFrom whole n.places k values → IsPut (held n) (held p) values k
+    → p ≡ record n { values = p.values; longs = p.longs } → m ≡ record p { zeros = m.zeros } → FillsTo m whole start runs (k + l)
 fills_on n p m whole start runs k l values f len some room stand put is still =
     fills_still p m m.zeros whole start runs (k + l) still (fills_more n p whole start runs k l values f len some room stand put is)

@@ -6,5 +6,7 @@ pub mod SeparatorTable
 pub mod NumbersInARow
 pub mod PutNumbers
 pub mod Gaps
+pub mod PartedNumbers
+pub mod LongNumbers
 pub mod HeldNumbers
 pub mod Cited

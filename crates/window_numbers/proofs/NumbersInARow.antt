@@ -24,7 +24,7 @@ first_minus (x ∷ xs) = refl
 small : (ds : List ℕ) → AllDigits 10 ds → length ds ≤ 8 → digits_value 10 ds < 2 ^ 64
 small ds h few = grind (arith, common_steps, pow-le-pow_right, digits_value-lt)
 
-negative_is : (d : ℕ) → 0 < d → (int_lt (neg_ℤ (pos d)) (pos 0) ≡ true) × (unsigned_abs (neg_ℤ (pos d)) ≡ d)
+pub negative_is : (d : ℕ) → 0 < d → (int_lt (neg_ℤ (pos d)) (pos 0) ≡ true) × (unsigned_abs (neg_ℤ (pos d)) ≡ d)
 negative_is zero some = absurd (omega (arith, some))
 negative_is (suc d) some = (refl, refl)
 
@@ -34,10 +34,10 @@ plain_is d = grind (arith, common_steps)
 some_is : (d : ℕ) → 0 < d → (true && nat_eq d 0) ≡ false
 some_is d some = grind (arith, nat_tests, some)
 
-no_minus : (b : ℕ) → nat_eq b 45 ≡ false → b ≡ 45 → ⊥
+pub no_minus : (b : ℕ) → nat_eq b 45 ≡ false → b ≡ 45 → ⊥
 no_minus b none e = absurd (let never : false ≡ true = sym none ∙ ap (λ x. nat_eq x 45) e in cc never)
 
-equal_or : (a b : ℕ) → (nat_eq a b ≡ true) ⊎ (nat_eq a b ≡ false)
+pub equal_or : (a b : ℕ) → (nat_eq a b ≡ true) ⊎ (nat_eq a b ≡ false)
 equal_or a b = split (nat_eq a b) refl
   where
     split : (c : Bool) → nat_eq a b ≡ c → (nat_eq a b ≡ true) ⊎ (nat_eq a b ≡ false)
@@ -159,7 +159,7 @@ module _ (bytes places : List ℕ) where
       (h i less) there.separates
 
 -- each of them has 32 bits
-short : (bytes : List ℕ) (from end : ℕ) (v : ℤ) → IsNumber bytes from end v → unsigned_abs v < 2 ^ 31
+pub short : (bytes : List ℕ) (from end : ℕ) (v : ℤ) → IsNumber bytes from end v → unsigned_abs v < 2 ^ 31
 short bytes from end v n = elim (equal_or (get_or bytes from 0) 45) [
   | inl here ↦ let is = n.minus (grind (arith, nat_tests, here)) in
       let sign = negative_is (digits_value 10 (between bytes (from + 1) end)) is.2 in

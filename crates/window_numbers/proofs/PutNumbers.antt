@@ -1,5 +1,5 @@
 -- Numbers that are put in the place of others.
-use Rattle.qbf_tokens.proofs.Cited.{◌≡◌, ℕ, ◌+◌, ◌-◌, ◌^◌, ◌<◌, ◌≤◌, List, [], ◌∷◌, ◌++◌, length, refl, ap, ◌∙◌, arith}
+use Rattle.qbf_tokens.proofs.Cited.{◌≡◌, ℕ, ◌+◌, ◌-◌, ◌^◌, ◌<◌, ◌≤◌, List, [], ◌∷◌, ◌++◌, length, refl, sym, ap, ◌∙◌, arith}
 use Rattle.window_numbers.proofs.Cited.{zero, suc, take, drop, get_or}
 use Rattle.std.specs.Prelude.{ℤ, pos, negsuc, unsigned_abs, set}
 use Rattle.std.specs.Simd.Lanes.{put_chunk}
@@ -10,6 +10,8 @@ use Rattle.std.proofs.lemmas.Simd.{get_or-put_chunk_at, length-put_chunk}
 use Rattle.std.proofs.Math.ListN.{get_or-append}
 use borrow.Rule.Slice.PartMut.{put_mid, mid_of, post_of, same_len_mid}
 use Rattle.window_numbers.specs.Numbers.{IsPut, AreShort}
+use Rattle.window_numbers.specs.Values.{parted, value_of}
+use Rattle.window_numbers.proofs.PartedNumbers.{length_parted, parted_at, short_is}
 
 fits : (v : ℤ) → unsigned_abs v < 2 ^ 31 → SFits w32 v
 fits (pos d) small = record { sfits = small }
@@ -73,3 +75,44 @@ module _ (xs values : List ℤ) (k rest : ℕ) (room : k + rest ≡ length xs) (
 pub put_lanes : (xs values : List ℤ) (k rest : ℕ) → k + rest ≡ length xs → length values ≤ rest → AreShort values
     → IsPut xs (put_mid k rest xs (put_chunk 0 (mid_of k rest xs) (map (to_z w32) (map (of_z w32) values)))) values k
 put_lanes xs values k rest room few short = rw (lanes_are values short) (put_part xs values k rest room few)
+
+-- ---- numbers in two parts
+
+each_short : (vs : List ℤ) (i : ℕ) → AreShort vs → i < length vs → unsigned_abs (get_or vs i (pos 0)) < 2 ^ 31
+each_short [] i h less = absurd (omega (arith, less))
+each_short (v ∷ vs) zero h less = h.0
+each_short (v ∷ vs) (suc i) h less = each_short vs i h.1 (omega (arith, less))
+
+-- short numbers are put, and the long ones stay
+pub lift : (xs ys : List ℤ) (ls : List ℕ) (values : List ℤ) (k : ℕ) → AreShort values → IsPut xs ys values k
+    → IsPut (parted xs ls) (parted ys ls) values k
+lift xs ys ls values k short p = record {
+  same_len = length_parted ys ls ∙ p.same_len ∙ sym (length_parted xs ls);
+  before = λ j less.
+      parted_at ys ls j ∙ ap (λ s. value_of s (get_or ls j 0)) (p.before j less) ∙ sym (parted_at xs ls j);
+  there = λ i less.
+      parted_at ys ls (k + i) ∙ ap (λ s. value_of s (get_or ls (k + i) 0)) (p.there i less)
+      ∙ short_is (get_or values i (pos 0)) (get_or ls (k + i) 0) (each_short values i short less);
+}
+
+-- a number in two parts is put
+pub put_both : (xs : List ℤ) (ls : List ℕ) (k : ℕ) (s : ℤ) (l : ℕ) → SFits w32 s → k < length xs → k < length ls
+    → IsPut (parted xs ls) (parted (set xs k (to_z w32 (of_z w32 s))) (set ls k l)) (value_of s l ∷ []) k
+put_both xs ls k s l fits in_xs in_ls = rw (to_z-of_z w32 s fits) (record {
+  same_len = length_parted (set xs k s) (set ls k l) ∙ length-set xs k s ∙ sym (length_parted xs ls);
+  before = λ j less.
+      let other : j ≡ k → ⊥ = λ e. omega (arith, e, less) in
+      parted_at (set xs k s) (set ls k l) j
+      ∙ ap (λ x. value_of x (get_or (set ls k l) j 0)) (get_or-set_other xs k j s (pos 0) other)
+      ∙ ap (λ x. value_of (get_or xs j (pos 0)) x) (get_or-set_other ls k j l 0 other)
+      ∙ sym (parted_at xs ls j);
+  there = here;
+})
+  where
+    here : (i : ℕ) → i < 1 → get_or (parted (set xs k s) (set ls k l)) (k + i) (pos 0) ≡ get_or (value_of s l ∷ []) i (pos 0)
+    here zero few =
+        let same : k + 0 ≡ k = omega arith in
+        rw same (parted_at (set xs k s) (set ls k l) k
+        ∙ ap (λ x. value_of x (get_or (set ls k l) k 0)) (get_or-set_same xs k s (pos 0) in_xs)
+        ∙ ap (value_of s) (get_or-set_same ls k l 0 in_ls))
+    here (suc i) few = absurd (omega (arith, few))

@@ -1,6 +1,7 @@
 -- Numbers that are held of a window: where each stands among its bytes.
 use Rattle.std.specs.Prelude.{◌≡◌, ℕ, zero, suc, ◌+◌, ◌-◌, ◌<◌, ◌≤◌, Bool, true, false, not, count_by, List, [], ◌∷◌, ◌++◌, length, take}
-use Rattle.std.specs.Prelude.{drop, ℤ, pos, unsigned_abs, int_lt, slice_index_or, ◌^◌}
+use Rattle.std.specs.Prelude.{drop, ℤ, pos, unsigned_abs, int_lt, slice_index_or, ◌^◌, ◌⊎◌}
+use Rattle.decimal.specs.Numbers.{IsNumber}
 use Rattle.std.specs.Simd.Lanes.{Each1}
 use Rattle.std.specs.List.{AllByRecursion}
 use Rattle.qbf_tokens.specs.declared.token.Comments.{Comments}
@@ -11,7 +12,9 @@ use Rattle.qbf_tokens.specs.Runs.{begins_number}
 use Rattle.qbf_tokens.specs.Tokens.{line_number, kind, is_comment_byte, is_line_end}
 use Rattle.window_numbers.specs.Cursors.{one_if}
 use Rattle.window_numbers.specs.declared.cursor.Cursor.{Cursor}
+use Rattle.window_numbers.specs.declared.tails.FourTails.{FourTails}
 use Rattle.window_numbers.specs.declared.numbers.Numbers.{Numbers}
+use Rattle.window_numbers.specs.Values.{held}
 
 -- the first `len` bytes are a run that is this number, and the separator after it, which ends the line or not
 pub record BeginsWithNumber (bytes : List ℕ) (negative : Bool) (value len : ℕ) (ends_line : Bool) : Type 0 where
@@ -89,6 +92,24 @@ SeemToEnd n k ends = (i : ℕ) → i < length ends → slice_index_or ends i 0 <
 abbrev pub AreAfterGaps : Numbers → List ℕ → (k : ℕ) → List ℕ → Type 0
 AreAfterGaps n bytes k starts = (i : ℕ) → i < length starts → IsGapTo bytes (place n (k + i)) (slice_index_or starts i 0)
 
+-- where the last eight bytes begin of those between two places, or the first place
+abbrev pub IsTail : (start tail end : ℕ) → Type 0
+IsTail start tail end = (start ≡ tail) ⊎ ((start < tail) × (tail + 8 ≡ end))
+
+-- four numbers between places, of which the last eight bytes are known to write numbers
+pub record AreTails (bytes : List ℕ) (f : FourTails) : Type 0 where
+  pub tails : (i : ℕ) → i < 4 → IsTail (slice_index_or f.starts i 0) (slice_index_or f.tails i 0) (slice_index_or f.ends i 0)
+  pub numbers : (i : ℕ) → i < 4
+      → IsNumber bytes (slice_index_or f.tails i 0) (slice_index_or f.ends i 0) (slice_index_or f.values i (pos 0))
+  pub within : (i : ℕ) → i < 4 → slice_index_or f.ends i 0 < length bytes
+  pub separate : (i : ℕ) → i < 4 → is_separator (slice_index_or bytes (slice_index_or f.ends i 0) 0) ≡ true
+
+-- they are those from one of the numbers of a window on
+pub record AreTailsFrom (n : Numbers) (bytes : List ℕ) (k : ℕ) (f : FourTails) : Type 0 where
+  pub tails : AreTails bytes f
+  pub gaps : (i : ℕ) → i < 4 → IsGapTo bytes (place n (k + i)) (slice_index_or f.starts i 0)
+  pub next : (i : ℕ) → i < 4 → place n (k + i + 1) ≡ slice_index_or f.ends i 0 + 1
+
 -- the number of bytes of the first `count` numbers that are not passed, with the separator after each
 abbrev pub len_of : Numbers → ℕ → ℕ
 len_of n count = place n (n.first + count) - place n n.first
@@ -97,17 +118,17 @@ len_of n count = place n (n.first + count) - place n n.first
 pub record AreHeld (n : Numbers) (whole : List ℕ) (start : ℕ) : Type 0 where
   pub few : n.known ≤ 2048
   pub front : n.first < n.known → place n n.first ≡ start
-  pub stand : (k : ℕ) → n.first ≤ k → k < n.known → NumberStands whole n.places k (slice_index_or n.values k (pos 0))
+  pub stand : (k : ℕ) → n.first ≤ k → k < n.known → NumberStands whole n.places k (slice_index_or (held n) k (pos 0))
 
 -- of the numbers that seem to end before the number `runs` those before the number `k` are put, and stand from a place of the window on
 pub record FillsTo (n : Numbers) (whole : List ℕ) (start runs k : ℕ) : Type 0 where
-  pub values_len : length n.values ≡ 2048
+  pub values_len : length (held n) ≡ 2048
   pub few : runs ≤ 2048
   pub first : n.first ≤ k
   pub before : k ≤ runs
   pub front : place n n.first ≡ start
   pub within : place n k ≤ length whole
-  pub stand : (j : ℕ) → n.first ≤ j → j < k → NumberStands whole n.places j (slice_index_or n.values j (pos 0))
+  pub stand : (j : ℕ) → n.first ≤ j → j < k → NumberStands whole n.places j (slice_index_or (held n) j (pos 0))
 
 -- they stand at the front of these bytes
 pub record StandInFront (n : Numbers) (bytes : List ℕ) : Type 0 where

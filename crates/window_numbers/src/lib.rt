@@ -1,7 +1,7 @@
 //! Numbers of a window of bytes, read before anybody asks for them.
 //!
 //! - Owns: where numbers stand among buffered bytes, their values, and the cursors between them.
-//! - Offers: `Numbers`, `Zeros`, `Cursor`.
+//! - Offers: `Numbers`, `Values`, `Zeros`, `Cursor`.
 //! - Proved: a number that is held stands at its place among the bytes of the window, with its
 //!   separator, whatever bytes follow; a cursor counts bytes and lines.
 //! - Read first: `Numbers::fill`, `Numbers::pass`, `Numbers::cursor_after`; `Cursor::token`.
@@ -14,6 +14,10 @@ mod cursor;
 mod lines;
 mod marks;
 mod numbers;
+mod separators;
+mod tails;
+mod values;
 
 pub use cursor::{Cursor, Passed};
 pub use numbers::{Numbers, ROOM, Zeros};
+pub use values::Values;

@@ -3,16 +3,20 @@
 ghost use Rattle.std.specs.Prelude.{◌≡◌, ℕ, ◌+◌, ◌<◌, ◌≤◌, List, [], ◌∷◌, length, IfSome, pos};
 ghost use Rattle.std.specs.Prelude.{unsigned_abs, int_lt, nat_eq, nat_le, slice_index};
 ghost use Rattle.std.specs.Prelude.{◌&&◌, ◌↔◌, ◌^◌, ◌-◌, IsTrue, drop, false, true};
-ghost use Rattle.window_numbers.specs.Numbers.{AreAfterGaps, AreHeld, AreSeparators, AreShort};
+ghost use Rattle.window_numbers.specs.Numbers.{AreAfterGaps, AreHeld, AreShort};
 ghost use Rattle.window_numbers.specs.Numbers.{BeginsWithValue, FillsTo, IsGapTo, IsPart, IsPut};
 ghost use Rattle.window_numbers.specs.Numbers.{NumberStands, SeemToEnd, StandFrom, StandInFront};
 ghost use Rattle.window_numbers.specs.Numbers.{cursor_to, len_of, place};
+ghost use Rattle.window_numbers.specs.Values.{held, numbers_of, value};
 ghost use Rattle.qbf_tokens.specs.Left.{is_separator};
 ghost use Rattle.window_numbers.specs.declared.numbers.TheConstants.{BLOCK, MOST, ROOM};
 
 use crate::cursor::{Cursor, begins_with_minus, is_minus_zero};
 use crate::lines::count_line_ends;
 use crate::marks::ends_of;
+use crate::separators::{after_separator, after_separators, all_separate};
+use crate::tails::{FourTails, Parted};
+use crate::values::Values;
 use decimal::{FourNumbers, four_numbers, four_numbers_between, number_between};
 use qbf_tokens::{Token, is_separator};
 use std::simd::prelude::*;
@@ -42,7 +46,7 @@ fn marks_of(block: &[u8]) -> u64
 
 /// The number with this sign and magnitude.
 #[inline(always)]
-fn signed(negative: bool, magnitude: u64) -> i32
+pub fn signed(negative: bool, magnitude: u64) -> i32
     requires { magnitude < 2 ^ 31 }
     ensures magnitude { unsigned_abs result ≡ magnitude }
     ensures sign { (negative && nat_eq magnitude 0) ≡ false → int_lt result (pos 0) ≡ negative }
@@ -68,7 +72,8 @@ const LONGEST: usize = 11;
 /// place `end`.
 #[inline(always)]
 fn number_before(bytes: &[u8], end: usize) -> Option<i32>
-    ensures { IfSome result (λ value. BeginsWithValue bytes.now (end + 1) value) }
+    ensures begins { IfSome result (λ value. BeginsWithValue bytes.now (end + 1) value) }
+    ensures short { IfSome result (λ value. unsigned_abs value < 2 ^ 31) }
 {
     if end >= bytes.len() || end.wrapping_sub(1) >= LONGEST {
         return None;
@@ -80,79 +85,6 @@ fn number_before(bytes: &[u8], end: usize) -> Option<i32>
         return None;
     }
     Some(signed(negative, magnitude))
-}
-
-/// For each byte, 0 if it separates tokens, else 1.
-const OTHERS: [u8; 256] = [
-    1, 1, 1, 1, 1, 1, 1, 1, 1, 0, 0, 1, 1, 0, 1, 1, 1, 1, 1, 1, 1, 1, 1, 1, 1, 1, 1, 1, 1, 1, 1, 1,
-    0, 1, 1, 1, 1, 1, 1, 1, 1, 1, 1, 1, 1, 1, 1, 1, 1, 1, 1, 1, 1, 1, 1, 1, 1, 1, 1, 1, 1, 1, 1, 1,
-    1, 1, 1, 1, 1, 1, 1, 1, 1, 1, 1, 1, 1, 1, 1, 1, 1, 1, 1, 1, 1, 1, 1, 1, 1, 1, 1, 1, 1, 1, 1, 1,
-    1, 1, 1, 1, 1, 1, 1, 1, 1, 1, 1, 1, 1, 1, 1, 1, 1, 1, 1, 1, 1, 1, 1, 1, 1, 1, 1, 1, 1, 1, 1, 1,
-    1, 1, 1, 1, 1, 1, 1, 1, 1, 1, 1, 1, 1, 1, 1, 1, 1, 1, 1, 1, 1, 1, 1, 1, 1, 1, 1, 1, 1, 1, 1, 1,
-    1, 1, 1, 1, 1, 1, 1, 1, 1, 1, 1, 1, 1, 1, 1, 1, 1, 1, 1, 1, 1, 1, 1, 1, 1, 1, 1, 1, 1, 1, 1, 1,
-    1, 1, 1, 1, 1, 1, 1, 1, 1, 1, 1, 1, 1, 1, 1, 1, 1, 1, 1, 1, 1, 1, 1, 1, 1, 1, 1, 1, 1, 1, 1, 1,
-    1, 1, 1, 1, 1, 1, 1, 1, 1, 1, 1, 1, 1, 1, 1, 1, 1, 1, 1, 1, 1, 1, 1, 1, 1, 1, 1, 1, 1, 1, 1, 1,
-];
-
-/// The entry of a table for a byte.
-#[inline(always)]
-fn entry(table: &[u8], byte: u8) -> u8
-    requires { byte < length table.now }
-    ensures { result ≡ slice_index table.now byte }
-{
-    table[usize::from(byte)]
-}
-
-/// 0 if the byte at a place separates tokens.
-#[inline(always)]
-fn other_at(bytes: &[u8], place: usize) -> u8
-    requires { place < length bytes.now }
-    ensures { nat_eq result 0 ≡ is_separator (slice_index bytes.now place) }
-{
-    entry(&OTHERS, bytes[place])
-}
-
-/// Whether a separator stands at each of four places.
-#[inline(always)]
-#[tactic(auto, using(crate::proofs::NumbersInARow::four_separate))]
-fn all_separate(bytes: &[u8], places: [usize; 4]) -> bool
-    requires { (slice_index places 0 < length bytes.now) × (slice_index places 1 < length bytes.now)
-        × (slice_index places 2 < length bytes.now) × (slice_index places 3 < length bytes.now) }
-    ensures { result ≡ true → AreSeparators bytes.now places }
-{
-    let [a, b, c, d] = places;
-    let [a, b] = [other_at(bytes, a), other_at(bytes, b)];
-    let [c, d] = [other_at(bytes, c), other_at(bytes, d)];
-    (a | b | c | d) == 0
-}
-
-/// The place of the first byte from a place on that separates no tokens, or that of the end.
-#[inline(always)]
-fn after_separators(bytes: &[u8], from: usize) -> usize
-    requires { from ≤ length bytes.now }
-    ensures gap { IsGapTo bytes.now from result }
-    ensures within { result ≤ length bytes.now }
-{
-    let mut at = from;
-    while at < bytes.len() && is_separator(bytes[at]) {
-        at += 1;
-    }
-    at
-}
-
-/// The next place if a separator stands at this one, else this one.
-#[inline(always)]
-fn after_separator(bytes: &[u8], place: usize) -> usize
-    ensures { IsGapTo bytes.now place result }
-{
-    if place >= bytes.len() {
-        return place;
-    }
-    if other_at(bytes, place) == 0 {
-        place + 1
-    } else {
-        place
-    }
 }
 
 /// For each four bits, four numbers: first the places of those that are set, and then zeros.
@@ -194,8 +126,10 @@ impl<'a> Zeros<'a> {
 /// Numbers that stand one after the other at the front of the buffered bytes.
 #[derive(Drop)]
 pub struct Numbers {
-    /// The numbers.
+    /// The numbers that are short, and `LONG` for each that is not.
     pub values: [i32; MOST],
+    /// The values of those that are not.
+    pub longs: [u64; MOST],
     /// Where each begins in the window, after the separator that ends the one before it: more
     /// separators may come first.
     pub places: [u16; MOST + 9],
@@ -226,6 +160,7 @@ impl Numbers {
     {
         Numbers {
             values: [0; MOST],
+            longs: [0; MOST],
             places: [0; MOST + 9],
             zeros: [0; MOST + 4],
             first: 0,
@@ -362,12 +297,16 @@ impl Numbers {
         runs
     }
 
-    /// Puts a number at the place `k`.
+    /// Puts a short number at the place `k`.
     #[inline(always)]
     fn put(&mut self, k: usize, value: i32)
         requires room { k < MOST }
-        ensures same { self.new ≡ record self.old { values = self.new.values } }
-        ensures put { IsPut self.old.values self.new.values (value ∷ []) k }
+        requires short { unsigned_abs value < 2 ^ 31 }
+        ensures same { self.new ≡ record self.old {
+          values = self.new.values;
+          longs = self.new.longs;
+        } }
+        ensures put { IsPut (held self.old) (held self.new) (value ∷ []) k }
     {
         self.values[k] = value;
     }
@@ -377,10 +316,27 @@ impl Numbers {
     fn put_four(&mut self, k: usize, values: i32x4)
         requires room { k + 4 ≤ MOST }
         requires short { AreShort values }
-        ensures same { self.new ≡ record self.old { values = self.new.values } }
-        ensures put { IsPut self.old.values self.new.values values k }
+        ensures same { self.new ≡ record self.old {
+          values = self.new.values;
+          longs = self.new.longs;
+        } }
+        ensures put { IsPut (held self.old) (held self.new) values k }
     {
         values.copy_to_slice(&mut self.values[k..]);
+    }
+
+    /// Puts a number at the place `k`.
+    #[inline(always)]
+    pub fn put_parted(&mut self, k: usize, number: Parted)
+        requires room { k < MOST }
+        ensures same { self.new ≡ record self.old {
+          values = self.new.values;
+          longs = self.new.longs;
+        } }
+        ensures put { IsPut (held self.old) (held self.new) (value number ∷ []) k }
+    {
+        self.values[k] = number.short;
+        self.longs[k] = number.long;
     }
 
     /// Notes which of four numbers from the place `k` on are zero, after so many zeros: `marks` has
@@ -407,7 +363,7 @@ impl Numbers {
     /// The places of the separators after four numbers from the number `k` on, as they seem.
     #[inline(always)]
     #[tactic(auto, using(crate::proofs::NumbersInARow::four_seem))]
-    fn ends(&self, k: usize) -> [usize; 4]
+    pub fn ends(&self, k: usize) -> [usize; 4]
         requires { k + 4 ≤ MOST }
         ensures { SeemToEnd self.now k result }
     {
@@ -445,6 +401,32 @@ impl Numbers {
         ]
     }
 
+    /// The place where the number `k` begins, if no separators more come first.
+    #[inline(always)]
+    fn begin(&self, k: usize) -> usize
+        requires { k < MOST }
+        ensures { result ≡ place self.now k }
+    {
+        usize::from(self.places[k])
+    }
+
+    /// The places where four numbers from the number `k` on begin, as they seem.
+    #[inline(always)]
+    pub fn four_starts(&self, bytes: &[u8], k: usize) -> [usize; 4]
+        requires { k + 4 ≤ MOST }
+        ensures { AreAfterGaps self.now bytes.now k result }
+    {
+        if self.is_spaced {
+            return self.starts(bytes, k);
+        }
+        [
+            self.begin(k),
+            self.begin(k + 1),
+            self.begin(k + 2),
+            self.begin(k + 3),
+        ]
+    }
+
     /// Whether more separators come before one of four numbers from the number `k` on.
     #[inline(always)]
     fn are_spaced(&self, k: usize, starts: [usize; 4]) -> bool
@@ -467,6 +449,7 @@ impl Numbers {
         ensures within { IfSome result (λ _. place self.now (k + 1) ≤ length bytes.now) }
         ensures begins { IfSome result (λ value.
             BeginsWithValue (drop at bytes.now) (place self.now (k + 1) - at) value) }
+        ensures short { IfSome result (λ value. unsigned_abs value < 2 ^ 31) }
     {
         let end = self.end(k);
         number_before(&bytes[at..], end.wrapping_sub(at))
@@ -481,6 +464,7 @@ impl Numbers {
         requires small { length bytes.now ≤ ROOM }
         ensures stands { IfSome result (λ value. (k < runs)
             × NumberStands bytes.now self.now.places k value) }
+        ensures short { IfSome result (λ value. unsigned_abs value < 2 ^ 31) }
     {
         if k >= runs {
             return None;
@@ -500,7 +484,7 @@ impl Numbers {
         ensures four { IfSome result (λ four. (k + 4 ≤ runs)
             × StandFrom bytes.now self.now.places k four.values × AreShort four.values) }
     {
-        if !self.is_spaced || k + 4 > runs {
+        if k + 4 > runs {
             return None;
         }
         let starts = self.starts(bytes, k);
@@ -559,8 +543,47 @@ impl Numbers {
         (k, zeros)
     }
 
+    /// A bit for each of four numbers from the number `k` on, the first the lowest: whether it seems
+    /// to have more than eight bytes. If one has, they take at least 16 with their separators.
+    #[inline(always)]
+    fn wide_marks(&self, k: usize) -> u64
+        requires { k ≤ MOST }
+    {
+        if self.places[k + 4].wrapping_sub(self.places[k]) < 16 {
+            return 0;
+        }
+        let here = u16x4::from_slice(&self.places[k..]);
+        let next = u16x4::from_slice(&self.places[k + 1..]);
+        (next - here).simd_gt(u16x4::splat(9)).to_bitmask()
+    }
+
+    /// Puts up to four numbers from the number `k` on, as `put_ones` does, or more of them if one of
+    /// the four has more than eight bytes.
+    #[cold]
+    #[inline(never)]
+    fn put_others(&mut self, bytes: &[u8], k: usize, runs: usize, zeros: usize) -> (usize, usize)
+        requires fills { FillsTo self.old bytes.now (place self.old self.old.first) runs k }
+        requires small { length bytes.now ≤ ROOM }
+        ensures fills { FillsTo self.new bytes.now (place self.old self.old.first) runs result.0 }
+        ensures further { k ≤ result.0 }
+    {
+        let wide = self.wide_marks(k);
+        if wide == 0 {
+            return self.put_ones(bytes, k, runs, zeros);
+        }
+        let Some(four) = FourTails::at(self, bytes, k, runs) else {
+            return self.put_ones(bytes, k, runs, zeros);
+        };
+        let next = four.put_tails(self, bytes, k);
+        let noted = self.note_zeros(k, four.zeros & !wide, zeros);
+        if next == k + 4 {
+            return (next, noted);
+        }
+        self.put_ones(bytes, next, runs, noted)
+    }
+
     /// Puts four numbers from the number `k` on, if more separators come before some of them, or up
-    /// to four one by one, as `put_ones` does. Four are tried only if such separators were found.
+    /// to four as `put_others` does.
     #[cold]
     #[inline(never)]
     fn put_spaced(&mut self, bytes: &[u8], k: usize, runs: usize, zeros: usize) -> (usize, usize)
@@ -570,11 +593,26 @@ impl Numbers {
         ensures further { k ≤ result.0 }
     {
         let Some(four) = self.four_spaced_at(bytes, k, runs) else {
-            return self.put_ones(bytes, k, runs, zeros);
+            return self.put_others(bytes, k, runs, zeros);
         };
         self.put_four(k, four.values);
         let noted = self.note_zeros(k, four.zeros, zeros);
         (k + 4, noted)
+    }
+
+    /// Puts four numbers from the number `k` on, or fewer, which are not usual ones in a row.
+    #[cold]
+    #[inline(never)]
+    fn put_unusual(&mut self, bytes: &[u8], k: usize, runs: usize, zeros: usize) -> (usize, usize)
+        requires fills { FillsTo self.old bytes.now (place self.old self.old.first) runs k }
+        requires small { length bytes.now ≤ ROOM }
+        ensures fills { FillsTo self.new bytes.now (place self.old self.old.first) runs result.0 }
+        ensures further { k ≤ result.0 }
+    {
+        if self.is_spaced {
+            return self.put_spaced(bytes, k, runs, zeros);
+        }
+        self.put_others(bytes, k, runs, zeros)
     }
 
     /// Puts the numbers that stand from the place `start` on, as far as they are usual ones and
@@ -596,7 +634,7 @@ impl Numbers {
                 zeros = self.note_zeros(k, four.zeros, zeros);
                 k += 4;
             } else {
-                let (next, noted) = self.put_spaced(bytes, k, runs, zeros);
+                let (next, noted) = self.put_unusual(bytes, k, runs, zeros);
                 if next < k + 4 {
                     return (next, noted);
                 }
@@ -653,13 +691,16 @@ impl Numbers {
 
     /// The numbers that are known.
     #[inline(always)]
-    pub fn values(&self) -> &[i32]
+    pub fn values(&self) -> Values
         requires some { self.now.first ≤ self.now.known }
         requires few { self.now.known ≤ MOST }
-        ensures part { IsPart result.now self.now.values self.now.first }
-        ensures within { self.now.first + length result.now ≤ self.now.known }
+        ensures part { IsPart (numbers_of result) (held self.now) self.now.first }
+        ensures within { self.now.first + length (numbers_of result) ≤ self.now.known }
     {
-        &self.values[self.first..self.known]
+        Values::new(
+            &self.values[self.first..self.known],
+            &self.longs[self.first..self.known],
+        )
     }
 
     /// Where zeros seem to stand among the numbers that are known.

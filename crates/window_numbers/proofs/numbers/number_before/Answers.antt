@@ -2,12 +2,8 @@ use Rattle.qbf_tokens.proofs.Cited.{◌≡◌, ℕ, List, ◌∙◌, ◌+◌, �
 use Rattle.window_numbers.proofs.Cited.{bool_byte, digits_value, take, drop, nat_eq, get_or}
 use Rattle.std.proofs.Common.{◌%◌, SFits, w32}
 use Rattle.std.proofs.lemmas.Int.{to_z-of_z}
-use Rattle.window_numbers.proofs.BufferedNumber.{found}
+use Rattle.window_numbers.proofs.BufferedNumber.{found, one_at_most}
 use Rattle.window_numbers.proofs.numbers.number_before.Goals as goal
-
-one_at_most : (start : ℕ) (negative : Bool) → start ≡ bool_byte negative → start ≤ 1
-one_at_most start true e = omega (arith, e)
-one_at_most start false e = omega (arith, e)
 
 -- less than eleven bytes from the second one on
 inside_longest : (end : ℕ) → end < 2 ^ 64 → (end + (2 ^ 64 - 1)) % 2 ^ 64 < 11 → (0 < end) × (end ≤ 16)
@@ -25,8 +21,8 @@ some_digits true bytes start end value front some is nonzero e =
     let never : true ≡ false = ap (λ v. nat_eq v 0) (sym zero) ∙ nonzero in cc never
 some_digits false bytes start end value front some is nonzero e = omega (arith, front, some, e)
 
-pub returns : goal.returns
-returns c =
+pub returns-clause-begins : goal.returns-clause-begins
+returns-clause-begins c =
     let d = c.in_ok-magnitude.ensures in
     let negative = c.begins_with_minus-negative.result in
     let bytes = c.args.bytes.now in

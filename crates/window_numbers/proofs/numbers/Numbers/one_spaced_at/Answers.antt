@@ -6,8 +6,8 @@ use Rattle.window_numbers.specs.Numbers.{IsGapTo, place}
 use Rattle.window_numbers.proofs.Gaps.{comes}
 use Rattle.window_numbers.proofs.numbers.Numbers.one_spaced_at.Goals as goal
 
-pub returns : goal.returns
-returns c =
+pub returns-clause-stands : goal.returns-clause-stands
+returns-clause-stands c =
     let n = c.args.self.now in
     let k = c.args.k in
     let bytes = c.args.bytes.now in
@@ -16,4 +16,4 @@ returns c =
     let gap = subst (λ from. IsGapTo bytes from c.after_separators-at.result) c.from-first.ensures c.after_separators-at.ensures.gap in
     let number = comes bytes (place n k) c.after_separators-at.result (place n (k + 1)) value gap c.after_separators-at.ensures.within
     c.in_ok-value.ensures.begins in
-    record { stands = (omega (arith, c.if-k-runs.false), rw (to_z-of_z w32 value fits) (c.in_ok-value.ensures.within, number)) }
+    (omega (arith, c.if-k-runs.false), rw (to_z-of_z w32 value fits) (c.in_ok-value.ensures.within, number))

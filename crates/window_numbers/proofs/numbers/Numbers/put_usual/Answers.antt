@@ -1,4 +1,5 @@
-use Rattle.qbf_tokens.proofs.Cited.{◌≡◌, length, sym, arith}
+use Rattle.qbf_tokens.proofs.Cited.{◌≡◌, length, sym, ◌∙◌, arith}
+use Rattle.window_numbers.proofs.PartedNumbers.{length_parted}
 use Rattle.window_numbers.proofs.Cited.{subst}
 use Rattle.window_numbers.specs.Numbers.{FillsTo}
 use Rattle.window_numbers.proofs.PutNumbers.{lanes_are}
@@ -9,7 +10,7 @@ use Rattle.window_numbers.proofs.numbers.Numbers.put_usual.Goals as goal
 pub numbers-init : goal.numbers-init
 numbers-init c = record {
   fills = record {
-    values_len = c.requires.room.2;
+    values_len = length_parted c.args.self.now.values c.args.self.now.longs ∙ c.requires.room.2;
     few = c.requires.room.1;
     first = omega arith;
     before = c.requires.room.0;
@@ -44,5 +45,5 @@ numbers-preserved c = record { fills = fills; at_is = sym c.from-at.ensures }
               (rw (lanes_are values row.2) at w.put_four.ensures.put) w.put_four.ensures.same w.note_zeros-zeros.ensures.same)
           | in_default+else-next-k w ↦
               rw (w.self-is, w.k-is)
-              (subst (λ s. FillsTo w.put_spaced-next.new.self bytes s runs w.put_spaced-next.result.0) f.front w.put_spaced-next.ensures.fills)
+              (subst (λ s. FillsTo w.put_unusual-next.new.self bytes s runs w.put_unusual-next.result.0) f.front w.put_unusual-next.ensures.fills)
         ]

@@ -1,0 +1,9 @@
+use Rattle.qbf_tokens.proofs.Cited.{◌-◌, ◌≤◌, length}
+use Rattle.window_numbers.specs.Numbers.{IsGapTo}
+use Rattle.window_numbers.proofs.separators.after_separators.Given as goal
+
+abbrev pub invariant-loop-at : goal.invariant-loop-at
+invariant-loop-at l = record { gap : IsGapTo l.bytes l.from l.at; within : l.at ≤ length l.bytes }
+
+abbrev pub decreases-loop-at : goal.decreases-loop-at
+decreases-loop-at l = length l.bytes - l.at
