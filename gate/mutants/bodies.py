@@ -25,6 +25,7 @@ class Copy:
     file: str
     place: int
     text: str
+    calls_own: bool  # whether the body calls the crate's own function, as only a copy can
 
 
 @dataclass
@@ -50,7 +51,8 @@ class Body:
         return self.copy.of if self.copy else path
 
     def in_place(self) -> "Body":
-        return replace(self, copy=None)
+        """The body in the place of the crate's own, unless it calls that."""
+        return self if self.copy and self.copy.calls_own else replace(self, copy=None)
 
 
 @dataclass
@@ -79,18 +81,17 @@ class Bodies:
     def copy(self, path: str, file: str, text: Optional[str], wrong: str) -> Optional[Copy]:
         """A copy of a function with the body that it has in a text, or with its own; None if the mutant's has to stand in its place."""
         before = read_file(self.crate, file)
+        shown = before if text is None else text
         find = lambda text: functions_of(self.crate_name, file, text).get(path)
-        old, new, changed = find(before), find(before if text is None else text), find(wrong)
+        old, new, changed = find(before), find(shown), find(wrong)
         if not old or not new or not changed or old.name == "main" or old.is_of_trait:
             return None
-        is_alone = is_changed_alone(before, wrong, old, changed)
+        is_alone = is_changed_alone(before, wrong, old, changed) and is_changed_alone(before, shown, old, new)
         # A right text may call the function: in a copy that is a call of the crate's own.
-        if text is not None and text != wrong:
-            is_alone = is_alone and is_changed_alone(before, text, old, new)
         if calls_itself(wrong, changed) or not is_alone:
             return None
         name = f"{path}_tried_{self.made}"
-        return Copy(path, name, file, old.end, "\n\n" + named(before if text is None else text, new, name.rsplit("::", 1)[1]))
+        return Copy(path, name, file, old.end, "\n\n" + named(shown, new, name.rsplit("::", 1)[1]), calls_itself(shown, new))
 
 
 def right_name(mutant: Mutant) -> str:

@@ -149,9 +149,8 @@ class Trial:
 
     def go_on(self, trial: CrateTrial) -> None:
         """What follows once all bodies of a crate were tried with their stored answers."""
-        left = [mutant.name for mutant in trial.mutants if not trial.fits(mutant)]
-        self.judge(trial, [mutant for mutant in trial.mutants if mutant.name not in left])
-        rest = [mutant for mutant in trial.mutants if mutant.name in left]
+        self.judge(trial, [mutant for mutant in trial.mutants if trial.fits(mutant)])
+        rest = [mutant for mutant in trial.mutants if not trial.fits(mutant)]
         self.add(trial, trial.unanswered(), "without answers ", [], partial(self.judge, trial, rest))
 
     def add(self, trial: CrateTrial, bodies: list[Body], label: str, after: list[Hashable], then: Callable[[], None]) -> None:

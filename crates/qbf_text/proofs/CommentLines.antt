@@ -8,7 +8,7 @@ use Rattle.qbf_text.specs.declared.scanner.Place.{Place}
 use Rattle.qbf_text.specs.Reading.{IsOpen, Reading, left}
 use Rattle.qbf_text.specs.Rows.{read_from}
 use Rattle.qbf_text.specs.Stopping.{BeginsAs, ScannerSkips}
-use Rattle.qbf_text.specs.Passing.{LeadsOver, ReadsLast}
+use Rattle.qbf_text.specs.Passing.{LeadsBetween, ReadsLast}
 use Rattle.qbf_text.proofs.BytesAhead.{part}
 use Rattle.qbf_text.proofs.Stops.{known_so_far, skips_comment}
 use Rattle.qbf_tokens.proofs.ByteByByte.{no_blank, no_line_end}
@@ -64,7 +64,7 @@ skips_lead row state r s (Some rest) skips =
 
 -- past a comment line, tokens lead from a state to itself
 pub comment_leads : {P A F : Type 0} (row : P → Token → Row P A F) (state : P) (r s : Reading) (remaining : Option (List ℕ))
-    → s.status ≡ r.status → IsOpen r → ScannerSkips r remaining s remaining → LeadsOver row state state r s remaining
+    → s.status ≡ r.status → IsOpen r → ScannerSkips r remaining s remaining → LeadsBetween row state state r s remaining
 unfolding left
 comment_leads row state r s None same open_ skips = rw (same, open_) (tt, refl)
 comment_leads row state r s (Some rest) same open_ skips =
@@ -72,8 +72,8 @@ comment_leads row state r s (Some rest) same open_ skips =
     rw (same, open_) (skips_lead row state r s (Some rest) skips, ap (λ ts. Some (read_from row state ts)) spelled)
 
 module _ {P A F : Type 0} (row : P → Token → Row P A F) (first state next : P) (r here s : Reading) (remaining : Option (List ℕ))
-    (l : LeadsOver row first state r here remaining) where
-  pub leads_on : LeadsOver row state next here s remaining → LeadsOver row first next r s remaining
+    (l : LeadsBetween row first state r here remaining) where
+  pub leads_on : LeadsBetween row state next here s remaining → LeadsBetween row first next r s remaining
   leads_on m = (
     known_so_far row first state next (tokens_next r) (tokens_next here) (tokens_next s) (ahead r.pending remaining)
         (ahead here.pending remaining) (ahead s.pending remaining) l.0 m.0,
@@ -82,7 +82,7 @@ module _ {P A F : Type 0} (row : P → Token → Row P A F) (first state next : 
 
 -- a result of the numbers after it, too
 pub ends_on : {P A F : Type 0} (row : P → Token → Row P A F) (first state next : P) (result : A) (r here s : Reading) (remaining : Option (List ℕ))
-    → LeadsOver row first state r here remaining → length here.pending ≤ length r.pending
+    → LeadsBetween row first state r here remaining → length here.pending ≤ length r.pending
     → ReadsLast row state next result here s remaining → ReadsLast row first next result r s remaining
 ends_on row first state next result r here s remaining l fewer t = record {
   last = t.last;

@@ -47,8 +47,8 @@ pub record SoFar {P A F : Type 0} (row : P → Token → Row P A F) (first state
   pub leads : (ts : List Lined) → read_from row first (given ++ ts) ≡ read_from row state ts
 
 -- between two places of a scanner the tokens lead from one state to another
-abbrev pub LeadsOver : {P A F : Type 0} → (P → Token → Row P A F) → (first next : P) → (r s : Reading) → Option (List ℕ) → Type 0
-LeadsOver row first next r s remaining =
+abbrev pub LeadsBetween : {P A F : Type 0} → (P → Token → Row P A F) → (first next : P) → (r s : Reading) → Option (List ℕ) → Type 0
+LeadsBetween row first next r s remaining =
     IfKnown (SoFar row first next (tokens_next r) (tokens_next s)) (ahead r.pending remaining) (ahead s.pending remaining)
     × (reads_from row first (left r remaining) ≡ reads_from row next (left s remaining))
 
@@ -58,7 +58,7 @@ pub record ReadsLast {P A F : Type 0} (row : P → Token → Row P A F) (first n
   pub last : P
   pub token : Lined
   pub mid : Reading
-  pub leads : LeadsOver row first last r mid remaining
+  pub leads : LeadsBetween row first last r mid remaining
   pub gives : GivesNext (left mid remaining) (left s remaining) token
   pub takes : ScannerTakes mid remaining s remaining token
   pub ends : row last token.0 ≡ Ends result next
@@ -69,5 +69,5 @@ pub record ReadsLast {P A F : Type 0} (row : P → Token → Row P A F) (first n
 -- a scanner read some of the buffered bytes: their tokens lead from one state to another, or the last of them ends the text with a result
 abbrev pub ReadsBuffered : {P A F : Type 0} → (P → Token → Row P A F) → (first next : P) → (r s : Reading) → Option (List ℕ) → Option A
     → Type 0
-ReadsBuffered row first next r s remaining None = LeadsOver row first next r s remaining
+ReadsBuffered row first next r s remaining None = LeadsBetween row first next r s remaining
 ReadsBuffered row first next r s remaining (Some result) = ReadsLast row first next result r s remaining

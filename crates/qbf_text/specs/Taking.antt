@@ -31,11 +31,11 @@ Leaves (Some r) a next None = ⊥
 Leaves (Some r) a next (Some ts) = r ≡ Whole a next ts
 
 -- the result is what was to be read, unless the source failed or an allocation failed
-abbrev pub Reads : {P A F : Type 0} → Option (Read P A F) → P → Known → Result A (ReadError F) → Type 0
-Reads whole next rest (Ok a) = Leaves whole a next rest
-Reads whole next rest (Err error.Device) = ⊤
-Reads whole next rest (Err error.Memory) = ⊤
-Reads whole next rest (Err (error.Text f line)) = IfSome whole (λ r. r ≡ Fault f line)
+abbrev pub ReadsWhole : {P A F : Type 0} → Option (Read P A F) → P → Known → Result A (ReadError F) → Type 0
+ReadsWhole whole next rest (Ok a) = Leaves whole a next rest
+ReadsWhole whole next rest (Err error.Device) = ⊤
+ReadsWhole whole next rest (Err error.Memory) = ⊤
+ReadsWhole whole next rest (Err (error.Text f line)) = IfSome whole (λ r. r ≡ Fault f line)
 
 -- the count of failures rose exactly if the source failed, unless it was at its top
 abbrev pub Counts : {A F : Type 0} → ℕ → ℕ → Result A (ReadError F) → Type 0

@@ -5,7 +5,7 @@ ghost use Rattle.qbf_tokens.specs.declared.token.Token.{Token};
 ghost use Rattle.std.specs.Io.KnownBytes.{IsAtEnd};
 ghost use Rattle.qbf_text.specs.Reading.{left, HasFailed, IsReady};
 ghost use Rattle.qbf_text.specs.Rows.{Row, read_from, reads_from};
-ghost use Rattle.qbf_text.specs.Taking.{Takes, StaysOpen, Reads, ReadsKnown, Counts, Follows};
+ghost use Rattle.qbf_text.specs.Taking.{Takes, StaysOpen, ReadsWhole, ReadsKnown, Counts, Follows};
 ghost use Rattle.qbf_tokens.specs.Tokens.{tokens};
 ghost use Rattle.qbf_text.specs.Ahead.{ahead};
 ghost use Rattle.qbf_text.specs.TakenNumbers.{TakesOver};
@@ -242,7 +242,7 @@ pub fn read_by<G: Grammar, S: Source>(
     source: &mut S,
 ) -> Result<G::Output, ReadError<G::Fault>>
     requires ready { ¬ HasFailed scanner.old }
-    ensures reads { Reads
+    ensures reads { ReadsWhole
         (reads_from G.row_of (G.state grammar.old) (left scanner.old (S.remaining source.old)))
         (G.state grammar.new) (left scanner.new (S.remaining source.new)) result }
     // The last token was taken by some row: with each token but End less can still come, and after

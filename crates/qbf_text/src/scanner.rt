@@ -192,7 +192,7 @@ impl Place {
 
     /// Goes past a comment line, if one stands next that was pulled whole. Returns whether it does.
     #[inline(never)]
-    fn pass_comment(&mut self) -> bool
+    fn skip_comment_line(&mut self) -> bool
         ensures none { (remaining : Option (List ℕ))
             → PlaceSkips self.old remaining self.new remaining }
         ensures less { IsTrue result → length self.new.window < length self.old.window }
@@ -387,7 +387,7 @@ impl Scanner {
         ensures open { IsTrue result → IsOpen self.old }
         ensures same { result ≡ false → self.new ≡ self.old }
     {
-        let is_passed = self.is_open() && self.place.pass_comment();
+        let is_passed = self.is_open() && self.place.skip_comment_line();
         let numbers = &mut self.numbers;
         if is_passed {
             numbers.forget();

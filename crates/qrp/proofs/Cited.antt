@@ -19,7 +19,7 @@ pub use Rattle.qbf_tokens.specs.Lined.{EndsOnce, Known}
 pub use Rattle.qbf_text.specs.Reading.{Reading}
 pub use Rattle.qbf_text.specs.Rows.{Cut, reads_from}
 pub use Rattle.qbf_text.specs.Stopping.{IfKnown, Stops}
-pub use Rattle.qbf_text.specs.Taking.{Leaves, Reads}
+pub use Rattle.qbf_text.specs.Taking.{Leaves, ReadsWhole}
 pub use Rattle.qbf_text.specs.declared.grammar.ReadError.{ReadError}
 pub use Rattle.qrp.specs.Returns.{IsReadAs, Gives, StopsAfterResult, is_outside, reads_bytes}
 pub use Rattle.qrp.specs.Derivations.{AreGrammatical, Derivation, IsWellFormed, items_of_lists, steps_at, with_steps_at}

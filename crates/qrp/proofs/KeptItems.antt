@@ -1,7 +1,7 @@
 -- A trace is read as a whole, and each item is put after the others.
 use Rattle.qrp.proofs.Cited.{arith, common_steps, ◌≡◌, ◌≤◌, ℕ, suc, ◌+◌, List, [], ◌∷◌, ◌++◌, length, Option, Some, Result, Ok, Err}
 use Rattle.qrp.proofs.Cited.{append_assoc, zero, refl, ap, sym, ◌∙◌, append-nil, Qrp, Lined, Token, ahead, left, tokens, tokens_next, ReadError}
-use Rattle.qrp.proofs.Cited.{fault_of, Read, Reading, Cut, read-one, reads_from, IfKnown, Stops, Leaves, Reads, TraceFault, P1, P7, P9}
+use Rattle.qrp.proofs.Cited.{fault_of, Read, Reading, Cut, read-one, reads_from, IfKnown, Stops, Leaves, ReadsWhole, TraceFault, P1, P7, P9}
 use Rattle.qrp.proofs.Cited.{reads_bytes, Gives, StopsAfterResult, Derivation, with_item, Stays, leads_further, leads_more}
 use Rattle.std.specs.Prelude.{ℤ, pos, int_lt, unsigned_abs, slice_index_or, IfOk}
 use Rattle.std.proofs.Common.{None, Bool}
@@ -78,7 +78,7 @@ module _ (s r : Reading) (begins : (bytes : List ℕ) → left s (Some bytes) �
   result_given before after d is leaves = grind (arith, common_steps, read_whole)
 
   pub fault_given : (before after : Option (List ℕ)) (e : ReadError TraceFault) (start : TraceRead) → start ≡ nothing_read
-      → Reads (reads_from trace_row start (left s before)) next (left r after) (Err e)
+      → ReadsWhole (reads_from trace_row start (left s before)) next (left r after) (Err e)
       → Gives (Err (fault_of P1 P9 e)) (reads_bytes before)
   fault_given before after e start is h = grind (arith, common_steps, read_whole)
 

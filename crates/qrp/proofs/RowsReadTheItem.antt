@@ -1,6 +1,6 @@
 -- The item that is read by the rows of the items is the next one.
 use Rattle.qrp.proofs.Cited.{arith, common_steps, rules, ◌≡◌, ℕ, List, [], ◌∷◌, Some, Ok, Err, ◌⊎◌, refl, ap, sym, ◌∙◌, Token, Lined, Read}
-use Rattle.qrp.proofs.Cited.{read-one, ReadError, Known, Cut, reads_from, Leaves, Reads, TraceFault, P1, P7, P9, Item, known_items}
+use Rattle.qrp.proofs.Cited.{read-one, ReadError, Known, Cut, reads_from, Leaves, ReadsWhole, TraceFault, P1, P7, P9, Item, known_items}
 use Rattle.qrp.proofs.Cited.{GivesUnless, GivesNextItem, left_after, stage_after, Stage, AtHeader, AtLists, ItemsRead, Stands, fault_of}
 use Rattle.dimacs_syntax.proofs.Cited.{read_from}
 use Rattle.qbf_text.specs.Rows as rows
@@ -36,7 +36,7 @@ pub item_given : (p : State) (known : Known) (next : State) (rest : Known) (i : 
 item_given p known next rest i ns leaves is = grind (arith, common_steps, gives)
 
 pub fault_given : (p : State) (known : Known) (next : State) (rest : Known) (e : ReadError TraceFault)
-    → Reads (reads_from row p known) next rest (Err e)
+    → ReadsWhole (reads_from row p known) next rest (Err e)
     → GivesUnless (fault_of P1 P9 e).0 (known_items p known) (Some (Err (fault_of P1 P9 e) ∷ [])) (Err (fault_of P1 P9 e))
 fault_given p known next rest e h = grind (arith, common_steps, gives)
 

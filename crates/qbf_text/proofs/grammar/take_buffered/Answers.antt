@@ -1,6 +1,6 @@
 use Rattle.qbf_tokens.proofs.Cited.{refl, sym, ◌∙◌, arith}
 use Rattle.qbf_text.proofs.Cited.{ahead, subst, tokens_next}
-use Rattle.qbf_text.specs.Passing.{LeadsOver}
+use Rattle.qbf_text.specs.Passing.{LeadsBetween}
 use Rattle.qbf_text.proofs.CommentLines.{comment_leads, ends_on, leads_on}
 use Rattle.qbf_text.proofs.Stops.{so_far_none}
 use Rattle.qbf_text.proofs.grammar.take_buffered.Goals as goal

@@ -2,7 +2,7 @@ use Rattle.qbf_tokens.proofs.Cited.{◌<◌, length, sym, ◌∙◌, arith}
 use Rattle.qbf_text.proofs.Cited.{PlaceSkips, subst}
 use Rattle.qbf_text.proofs.CommentLines.{skips_line}
 use Rattle.qbf_text.proofs.Stops.{place_skips_more}
-use Rattle.qbf_text.proofs.scanner.Place.pass_comment.Goals as goal
+use Rattle.qbf_text.proofs.scanner.Place.skip_comment_line.Goals as goal
 
 pub returns-clause-none : goal.returns-clause-none
 returns-clause-none c = λ remaining.
