@@ -141,30 +141,28 @@ def put(bodies: list[Body], crate_name: str, crate: Path) -> None:
 
 def together(bodies: list[Body], crate: Path) -> dict[str, str]:
     """The files of the crate with all of these bodies."""
-    changes: dict[str, list[tuple[int, int, str]]] = {}
+    places: dict[str, list[tuple[int, int, str]]] = {}
     for body in bodies:
         if body.copy:
-            changes.setdefault(body.copy.file, []).append((body.copy.place, body.copy.place, body.copy.text))
+            places.setdefault(body.copy.file, []).append((body.copy.place, body.copy.place, body.copy.text))
             continue
         for file, text in body.files.items():
-            changes.setdefault(file, []).append(change(read_file(crate, file), text))
+            places.setdefault(file, []).extend(changes(read_file(crate, file), text))
     files = {}
-    for file, places in changes.items():
+    for file, changed in places.items():
         files[file] = read_file(crate, file)
-        for start, end, new in sorted(places, reverse=True):
+        for start, end, new in sorted(set(changed), reverse=True):
             files[file] = files[file][:start] + new + files[file][end:]
     return files
 
 
-def change(before: str, after: str) -> tuple[int, int, str]:
-    """The place of a text that is changed, from its first to after its last difference, and what then stands there."""
-    same = 0
-    while same < min(len(before), len(after)) and before[same] == after[same]:
-        same += 1
-    tail = 0
-    while tail < min(len(before), len(after)) - same and before[-1 - tail] == after[-1 - tail]:
-        tail += 1
-    return same, len(before) - tail, after[same : len(after) - tail]
+def changes(before: str, after: str) -> list[tuple[int, int, str]]:
+    """The lines of a text that are changed, each with its first place, the place after it, and what then stands there. None is added."""
+    found, place = [], 0
+    for old, new in zip(before.splitlines(True), after.splitlines(True), strict=True):
+        found += [(place, place + len(old), new)] if old != new else []
+        place += len(old)
+    return found
 
 
 def copy_proofs(copy: Copy, crate_name: str, crate: Path) -> None:

@@ -78,8 +78,7 @@ def has_room(group: list[Body], body: Body) -> bool:
 
 def are_apart(one: Body, other: Body, reach: Graph) -> bool:
     """Whether each of two bodies is refused or not whatever the other does."""
-    if any(len(body.functions) != 1 or body.adds_functions for body in (one, other)):
+    if one.adds_functions or other.adds_functions or one.functions & other.functions and None in (one.copy, other.copy):
         return False
-    (first,), (second,) = one.functions, other.functions
-    is_called = lambda body, path, by: body.copy is None and path in reach.get(by, ())
-    return (first != second or None not in (one.copy, other.copy)) and not is_called(one, first, second) and not is_called(other, second, first)
+    calls_one = lambda body, by: body.copy is None and any(body.functions & reach.get(path, set()) for path in by.functions)
+    return not calls_one(one, other) and not calls_one(other, one)
