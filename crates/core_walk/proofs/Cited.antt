@@ -10,8 +10,8 @@ pub use Rattle.qbf_core.specs.Literal.{Literal}
 pub use Rattle.qbf_core.specs.Members.{◌∈◌, ◌⊆◌}
 pub use Rattle.qbf_core.specs.Qbf.{Qbf}
 pub use Rattle.qbf_core.specs.Rules.{IsClean, Side}
-pub use Rattle.qrp.proofs.Positions.{own_numbers}
-pub use Rattle.qrp.specs.Inferences.{Inference, IsAt, numbers}
+pub use Rattle.trace_items.proofs.Positions.{own_numbers}
+pub use Rattle.trace_items.specs.Inferences.{Inference, IsAt, numbers}
 pub use Rattle.qrp_rules.proofs.MembersDecide.{reduct_answer, resolvent_answer, same_self}
 pub use Rattle.qrp_rules.specs.Conditions.{IsFaultOf, resolvent_conditions}
 pub use Rattle.qrp_rules.specs.declared.fault.RuleFault.{RuleFault}

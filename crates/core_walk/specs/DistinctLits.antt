@@ -2,7 +2,7 @@
 use Rattle.std.specs.Prelude.{◌≡◌, ℕ, List, Some, length, slice_get}
 use Rattle.qbf_core.specs.Literal.{Literal}
 use Rattle.qbf_core.specs.Sets.{HasMembersOf}
-use Rattle.qrp.specs.Inferences.{Inference, IsAt}
+use Rattle.trace_items.specs.Inferences.{Inference, IsAt}
 use Rattle.core_walk.specs.declared.distinct_lits.DistinctLits.{DistinctLits}
 
 -- these literals are kept of the step at position p

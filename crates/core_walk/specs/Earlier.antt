@@ -1,6 +1,6 @@
 -- The position of an earlier step, by its number.
 use Rattle.std.specs.Prelude.{◌≡◌, ℕ, ◌<◌, List, Option, Some, None}
-use Rattle.qrp.specs.Inferences.{Inference, IsAt, IsOnlyAt}
+use Rattle.trace_items.specs.Inferences.{Inference, IsAt, IsOnlyAt}
 
 -- the step with the number n is at p, before i
 pub record StandsEarlier (steps : List Inference) (i n p : ℕ) : Type 0 where

@@ -2,7 +2,7 @@
 use Rattle.std.specs.Prelude.{◌≡◌, ℕ, ◌<◌, List}
 use Rattle.qbf_core.specs.Qbf.{Qbf}
 use Rattle.qbf_core.specs.Rules.{Side}
-use Rattle.qrp.specs.Inferences.{Inference}
+use Rattle.trace_items.specs.Inferences.{Inference}
 use Rattle.qrp_rules.specs.declared.rules.Rules.{Rules}
 use Rattle.qrp_rules.specs.declared.fault.RuleFault.{RuleFault}
 use Rattle.core_walk.specs.Core.{IsInCore}

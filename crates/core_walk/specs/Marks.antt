@@ -1,7 +1,7 @@
 -- Marks on the steps of a trace.
 use Rattle.std.specs.Prelude.{◌≡◌, ◌↔◌, ℕ, ◌<◌, Bool, true, List, length, slice_get, slice_set, Option, Some, None}
 use Rattle.qbf_core.specs.Members.{◌∈◌}
-use Rattle.qrp.specs.Inferences.{Inference, IsAt}
+use Rattle.trace_items.specs.Inferences.{Inference, IsAt}
 use Rattle.core_walk.specs.Core.{IsInCore}
 
 -- the step at i is marked

@@ -4,7 +4,7 @@ use Rattle.qbf_core.specs.Literal.{Literal}
 use Rattle.qbf_core.specs.Blocks.{Block}
 use Rattle.qbf_core.specs.Qbf.{Qbf}
 use Rattle.qbf_core.specs.Rules.{Side}
-use Rattle.qrp.specs.Inferences.{Inference, IsAt}
+use Rattle.trace_items.specs.Inferences.{Inference, IsAt}
 use Rattle.qrp_rules.specs.declared.rules.Rules.{Rules}
 use Rattle.qrp_rules.specs.Conditions.{AllHold}
 use Rattle.written_steps.specs.Initial.{AreKnown}

@@ -1,7 +1,7 @@
 //! Steps that repeat a literal, with each of their literals once.
 
 ghost use Rattle.std.specs.Prelude.{◌≡◌, ◌<◌, List, [], ◌∷◌, ◌++◌, length, IfSome, OnOk};
-ghost use Rattle.qrp.specs.Inferences.{Inference};
+ghost use Rattle.trace_items.specs.Inferences.{Inference};
 ghost use Rattle.core_walk.specs.DistinctLits.{AreKept, HasMembersAt, IsKeptAt};
 
 use qbf_core::{GrowingLists, Lit};

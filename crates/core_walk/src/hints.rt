@@ -1,7 +1,7 @@
 //! The positions of the antecedents of the core.
 
 ghost use Rattle.std.specs.Prelude.{◌≡◌, ◌↔◌, ℕ, ◌<◌, Some, length, IfOk, IfSome, IsTrue};
-ghost use Rattle.qrp.specs.Inferences.{Inference, IsAt, IsOnlyAt};
+ghost use Rattle.trace_items.specs.Inferences.{Inference, IsAt, IsOnlyAt};
 ghost use Rattle.core_walk.specs.Earlier.{FindsEarlier};
 
 use qrp::KeptSteps;

@@ -1,7 +1,7 @@
 //! The marks of the steps that a goal needs.
 
 ghost use Rattle.std.specs.Prelude.{◌≡◌, ◌↔◌, ◌⊎◌, ℕ, ◌<◌, length, IfOk, IfSome, OnOk};
-ghost use Rattle.qrp.specs.Inferences.{Inference, IsAt};
+ghost use Rattle.trace_items.specs.Inferences.{Inference, IsAt};
 ghost use Rattle.core_walk.specs.Core.{IsGoal, IsInCore};
 ghost use Rattle.core_walk.specs.Marks.{IsMarked, IsNamed, with_mark};
 

@@ -1,7 +1,7 @@
 //! The literals of the antecedents of a step.
 
 ghost use Rattle.std.specs.Prelude.{◌<◌, take, length};
-ghost use Rattle.qrp.specs.Inferences.{Inference, IsAt};
+ghost use Rattle.trace_items.specs.Inferences.{Inference, IsAt};
 ghost use Rattle.core_walk.specs.DistinctLits.{AreKept};
 ghost use Rattle.core_walk.specs.Premises.{ArePremises};
 

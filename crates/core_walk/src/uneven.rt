@@ -1,7 +1,7 @@
 //! Steps that are much shorter than an antecedent: each is first compared with a part of that.
 
 ghost use Rattle.std.specs.Prelude.{◌≡◌, ◌<◌, ℕ, List, length, take, IfOk, IfSome, IsTrue, OnOk};
-ghost use Rattle.qrp.specs.Inferences.{Inference};
+ghost use Rattle.trace_items.specs.Inferences.{Inference};
 ghost use Rattle.core_walk.specs.Premises.{AreFit, ArePremises, IsPremise, found_conditions};
 ghost use Rattle.core_walk.specs.Uneven.{AreEnough, ArePartsOf, ArePremisesAt, IsToJudge};
 ghost use Rattle.qrp_rules.specs.Conditions.{AllHold, IsFaultOf};

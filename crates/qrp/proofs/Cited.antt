@@ -1,5 +1,5 @@
 -- The names that the proofs cite most, passed on from one place. Declares nothing.
-pub use Rattle.qbf_core.proofs.DistinctNumbers.{new_number, one_place, push_distinct}
+pub use Rattle.qbf_core.proofs.DistinctNumbers.{new_number, push_distinct}
 pub use Rattle.dimacs_syntax.proofs.CanonicalLines.{literals_plain, set_written}
 pub use Rattle.dimacs_syntax.proofs.Cited.{AllByRecursion, AllByRecursion-push, Block, IsSent, IsVariable, Lined, Literal, Qrp, Quantifier}
 pub use Rattle.dimacs_syntax.proofs.Cited.{Read, Token, ahead, flat_map, flat_map-append, flat_map-map, left, length-append, letter, literal}
@@ -22,26 +22,25 @@ pub use Rattle.qbf_text.specs.Stopping.{IfKnown, Stops}
 pub use Rattle.qbf_text.specs.Taking.{Leaves, ReadsWhole}
 pub use Rattle.qbf_text.specs.declared.grammar.ReadError.{ReadError}
 pub use Rattle.qrp.specs.Returns.{IsReadAs, Gives, StopsAfterResult, is_outside, reads_bytes}
-pub use Rattle.qrp.specs.Derivations.{AreGrammatical, Derivation, IsWellFormed, items_of_lists, steps_at, with_steps_at}
+pub use Rattle.trace_items.specs.Derivations.{AreGrammatical, Derivation, IsWellFormed, items_of_lists, steps_at, with_steps_at}
 pub use Rattle.qrp.specs.Flat.{IsFlat, Kept, kept_of, steps_of, with_item}
 pub use Rattle.qrp.specs.NextItem.{GivesNextItem, GivesUnless, StopsAfterPart, known_items, left_after, state_next, stage_after}
 pub use Rattle.qrp.specs.Grammar.{IsTrace, header, lines, lists, result, result_word, step, text}
-pub use Rattle.qrp.specs.Inferences.{Inference, IsAt, IsInference, IsLiteral, IsNumber, IsOnlyAt, numbers}
+pub use Rattle.trace_items.specs.Inferences.{Inference, IsAt, IsInference, IsLiteral, IsNumber, numbers}
 pub use Rattle.qrp.specs.Items.{ItemsRead, Stands}
 pub use Rattle.qrp.specs.Laws.{ItemsOfTrace, ReadsText}
 pub use Rattle.qrp.specs.States.{IsSound, Stays, state_at}
 pub use Rattle.qrp.specs.Texts.{step_text, steps_text}
 pub use Rattle.qrp.specs.declared.fault.TraceFault.{TraceFault}
 pub use Rattle.qrp.specs.declared.fault.TraceFault.TheVariants.{P1, P2, P3, P4, P5, P6, P7, P8, P9}
-pub use Rattle.qrp.specs.declared.item.Header.{Header}
-pub use Rattle.qrp.specs.declared.item.Item.{Item}
-pub use Rattle.qrp.specs.declared.item.Outcome.{Outcome}
-pub use Rattle.qrp.specs.declared.item.Outcome.TheVariants.{Sat, Unsat}
+pub use Rattle.trace_items.specs.declared.item.Header.{Header}
+pub use Rattle.trace_items.specs.declared.item.Item.{Item}
+pub use Rattle.trace_items.specs.declared.item.Outcome.{Outcome}
+pub use Rattle.trace_items.specs.declared.item.Outcome.TheVariants.{Sat, Unsat}
 pub use Rattle.qrp.specs.declared.reader.Stage.{Stage}
 pub use Rattle.qrp.specs.declared.reader.Stage.TheVariants.{AtHeader, AtLists}
 pub use Rattle.std.proofs.Common.{Err, IfSome, List, Ok, Option, Result, Some, [], ap, append-nil, append_assoc, arith, drop}
 pub use Rattle.std.proofs.Common.{◌-◌, false, inl, inr, length, map, nat_eq, refl, rules, slice_get, suc, sym, zero, ℕ, ◌++◌, ◌+◌, ◌<◌}
 pub use Rattle.std.proofs.Common.{◌^◌, ◌∙◌, ◌∷◌, ◌≡◌, ◌≤◌, ◌⊎◌}
 pub use Rattle.std.proofs.lemmas.Grind.{common_steps}
-pub use Rattle.std.proofs.lemmas.Option.{slice_get-map}
 pub use Rattle.step_index.specs.Numbers.{AreStepNumbers, is_used}

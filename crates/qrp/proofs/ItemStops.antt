@@ -4,7 +4,7 @@ use Rattle.qrp.proofs.Cited.{Item, Stage, AtHeader, AtLists, StopsAfterPart, sta
 use Rattle.qbf_text.specs.Rows as rows
 use Rattle.qbf_text.specs.Stopping as text
 use Rattle.qbf_text.proofs.Stops.{if_known, taken_no_end, unread_fault}
-use Rattle.qrp.specs.declared.item.Item.TheVariants as item
+use Rattle.trace_items.specs.declared.item.Item.TheVariants as item
 use Rattle.qrp.specs.Reading.{State, Between, After, row, items_from}
 use Rattle.qrp.proofs.RowsReadTheItem.{gives, given_of}
 use Rattle.qrp.proofs.SpelledIsRead.{ItemResult, end_row}

@@ -13,14 +13,14 @@ use Rattle.qbf_text.specs.Rows as rows
 use Rattle.qbf_text.specs.Stopping as text
 use Rattle.qbf_text.proofs.OneToken as going
 use Rattle.qbf_text.proofs.Stops.{taken_no_end, unread_fault}
-use Rattle.qrp.specs.declared.item.Item.TheVariants as item
+use Rattle.trace_items.specs.declared.item.Item.TheVariants as item
 use Rattle.qrp.specs.declared.parts.Parts.{Parts}
 use Rattle.qrp.specs.declared.states.State.TheVariants as at
 use Rattle.qrp.specs.declared.states.Part.TheVariants as part
 use Rattle.qrp.specs.declared.states.Lists.{Lists}
 use Rattle.qrp.specs.Flat.{kept_of, trace_of, ClosesPart}
 use Rattle.qrp.specs.States.{item_of, numbers_after, state_at, Arrives}
-use Rattle.qrp.specs.declared.item.Outcome.{Outcome}
+use Rattle.trace_items.specs.declared.item.Outcome.{Outcome}
 use Rattle.qrp.specs.declared.states.Part.{Part}
 use Rattle.qrp.specs.declared.states.State as states
 use Rattle.qrp.specs.Reading.{Fault, State, Row, Between, After, row, items_from, with_items, nothing, read_trace}

@@ -1,11 +1,10 @@
 mod WorkedRows
-pub mod Positions
 pub mod BufferedNumbers
 pub mod SpelledIsRead
 pub mod ReadIsSpelled
 pub mod WrittenParts
 pub mod FlatSteps
-pub mod SetLists
+pub mod OtherSets
 pub mod RowsReadTheItem
 pub mod ItemStops
 pub mod KeptItems

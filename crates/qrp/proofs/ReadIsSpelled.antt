@@ -11,7 +11,7 @@ use Rattle.qbf_text.proofs.AcceptedTokens.{LeadsOrEnds}
 use Rattle.dimacs_syntax.specs.declared.header.HeaderAt.TheVariants as place
 use Rattle.qrp.specs.Faults.{AreLists, Spells, Reads}
 use Rattle.qbf_text.specs.Rows.{Goes, Ends, Fails}
-use Rattle.qrp.specs.declared.item.Item.TheVariants as item
+use Rattle.trace_items.specs.declared.item.Item.TheVariants as item
 use Rattle.qrp.specs.Reading.{State, AtP, InHeader, Between, InSet, InLits, InAnts, AtResult, After, Row, row, next_state, read}
 use Rattle.qrp.proofs.SpelledIsRead.{end_row, read_once}
 

@@ -7,7 +7,7 @@ use Rattle.qrp.proofs.Cited.{is_used, split_at, TraceFault, Outcome, Sat, ReadsO
 use Rattle.dimacs_syntax.proofs.Cited.{IsDistinct}
 use Rattle.dimacs_syntax.proofs.Cited.token
 use Rattle.dimacs_syntax.proofs.Cited.word
-use Rattle.qrp.specs.declared.item.Item.TheVariants as item
+use Rattle.trace_items.specs.declared.item.Item.TheVariants as item
 use Rattle.qbf_text.specs.Rows.{Goes, Ends, Fails}
 use Rattle.qrp.specs.Reading.{Fault, State, AtP, Between, InSet, InLits, InAnts, AtResult, After, Row, row, items_from, next_state, item_and_more}
 use Rattle.qrp.specs.Reading.{InHeader, items, with_items, nothing, read}

@@ -7,10 +7,10 @@ use Cited.word
 use Rattle.qbf_text.specs.Rows.{Fails}
 use Rattle.dimacs_syntax.specs.Headers.{header_before}
 use Rattle.qrp.specs.declared.fault.TraceFault.{TraceFault}
-use Rattle.qrp.specs.declared.item.Header.{Header}
-use Rattle.qrp.specs.declared.item.Item.{Item}
-use Rattle.qrp.specs.Inferences.{Inference, IsLiteral, IsNumber, numbers}
-use Rattle.qrp.specs.Derivations.{Derivation, AreGrammatical, items_of_lists}
+use Rattle.trace_items.specs.declared.item.Header.{Header}
+use Rattle.trace_items.specs.declared.item.Item.{Item}
+use Rattle.trace_items.specs.Inferences.{Inference, IsLiteral, IsNumber, numbers}
+use Rattle.trace_items.specs.Derivations.{Derivation, AreGrammatical, items_of_lists}
 use Rattle.qbf_text.specs.WholeTexts as whole_texts
 use Rattle.qrp.specs.Grammar.{lists, IsTrace}
 use Rattle.qrp.specs.Reading.{Fault, State, InHeader, Between, InSet, InLits, InAnts, AtResult, After, row}

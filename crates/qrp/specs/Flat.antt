@@ -3,14 +3,14 @@ use Rattle.std.specs.Prelude.{◌≡◌, ℕ, List, [], ◌∷◌, ◌++◌, len
 use Rattle.qbf_core.specs.Blocks.{Block}
 use Rattle.qbf_core.specs.Lists.{Growing}
 use Rattle.qbf_core.specs.Literal.{Literal}
-use Rattle.qrp.specs.declared.item.Header.{Header}
-use Rattle.qrp.specs.declared.item.Item.{Item}
-use Rattle.qrp.specs.declared.item.Item.TheVariants as item
-use Rattle.qrp.specs.declared.item.Outcome.TheVariants.{Sat}
+use Rattle.trace_items.specs.declared.item.Header.{Header}
+use Rattle.trace_items.specs.declared.item.Item.{Item}
+use Rattle.trace_items.specs.declared.item.Item.TheVariants as item
+use Rattle.trace_items.specs.declared.item.Outcome.TheVariants.{Sat}
 use Rattle.qrp.specs.declared.parts.Parts.{Parts}
 use Rattle.qrp.specs.declared.states.Part.{Part}
-use Rattle.qrp.specs.Derivations.{Derivation, IsWellFormed}
-use Rattle.qrp.specs.Inferences.{Inference, numbers}
+use Rattle.trace_items.specs.Derivations.{Derivation, IsWellFormed}
+use Rattle.trace_items.specs.Inferences.{Inference, numbers}
 use Rattle.qrp.specs.States.{item_of, numbers_after}
 
 -- the steps of these numbers, literals and antecedents

@@ -1,7 +1,7 @@
 -- A trace with no sets.
 use Rattle.std.specs.Prelude.{List, [], length}
-use Rattle.qrp.specs.Derivations.{Derivation}
-use Rattle.qrp.specs.Inferences.{Inference}
+use Rattle.trace_items.specs.Derivations.{Derivation}
+use Rattle.trace_items.specs.Inferences.{Inference}
 use Rattle.qrp.specs.declared.writing.Frame.{Frame}
 
 -- the trace with these steps, which its header counts, and with what the frame has

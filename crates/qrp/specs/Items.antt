@@ -5,7 +5,7 @@ use Rattle.qbf_text.specs.Reading.{Reading, HasFailed, left}
 use Rattle.qbf_text.specs.Stopping.{IfKnown, tokens_next}
 use Rattle.qbf_text.specs.WholeTexts.{TellsFailures}
 use Rattle.qrp.specs.declared.fault.TraceFault.TheVariants.{P1, P9}
-use Rattle.qrp.specs.declared.item.Item.{Item}
+use Rattle.trace_items.specs.declared.item.Item.{Item}
 use Rattle.qrp.specs.declared.reader.Stage.{Stage}
 use Rattle.qrp.specs.declared.reader.Stage.TheVariants.{AtHeader, AtLists}
 use Rattle.qrp.specs.Flat.{Kept}

@@ -1,5 +1,3 @@
-pub mod Inferences
-pub mod Derivations
 pub mod Grammar
 pub mod Reading
 pub mod Faults
@@ -8,7 +6,6 @@ pub mod NextItem
 pub mod Returns
 pub mod Texts
 pub mod Flat
-pub mod SetLists
 pub mod Framed
 pub mod States
 pub mod Items

@@ -7,7 +7,7 @@ use Rattle.qbf_tokens.specs.Left.{IsUnbroken}
 use Rattle.qrp.specs.declared.fault.TraceFault.{TraceFault}
 use Rattle.qbf_text.specs.Stopping.{IfKnown, IsAtMostASeparator}
 use Rattle.qrp.specs.declared.fault.TraceFault.TheVariants.{P1, P7, P9}
-use Rattle.qrp.specs.Derivations.{Derivation}
+use Rattle.trace_items.specs.Derivations.{Derivation}
 use Rattle.qrp.specs.Grammar.{IsTrace}
 use Rattle.qrp.specs.Reading.{Fault, read_trace}
 use Rattle.qrp.specs.Faults.{IsFault}

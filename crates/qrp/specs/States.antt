@@ -4,15 +4,15 @@ use Rattle.dimacs_syntax.specs.Cited.{AllByRecursion, IsVariable}
 use Rattle.qbf_text.specs.declared.grammar.Stop.{Stop}
 use Rattle.qbf_text.specs.declared.grammar.Stop.TheVariants as stop
 use Rattle.qrp.specs.declared.fault.TraceFault.{TraceFault}
-use Rattle.qrp.specs.declared.item.Item.{Item}
-use Rattle.qrp.specs.declared.item.Item.TheVariants as item
+use Rattle.trace_items.specs.declared.item.Item.{Item}
+use Rattle.trace_items.specs.declared.item.Item.TheVariants as item
 use Rattle.qrp.specs.declared.states.State as states
 use Rattle.qrp.specs.declared.states.State.TheVariants as at
 use Rattle.qrp.specs.declared.states.Lists.{Lists}
 use Rattle.qrp.specs.declared.states.Part.{Part}
 use Rattle.qrp.specs.declared.states.Part.TheVariants as part
 use Rattle.step_antecedents.specs.Antecedents.{list_of_pair}
-use Rattle.qrp.specs.Inferences.{IsLiteral, IsNumber}
+use Rattle.trace_items.specs.Inferences.{IsLiteral, IsNumber}
 use Rattle.qbf_text.specs.Rows.{Goes, Ends, Fails}
 use Rattle.qbf_text.specs.TakenNumbers.{LeadsOver, EndsOver}
 use Rattle.qrp.specs.Reading.{State, Row, row, InHeader, Between, InSet, InLits, InAnts, AtResult, After}

@@ -2,7 +2,7 @@
 use Rattle.std.specs.Prelude.{ℕ, List, ◌∷◌, ◌++◌, decimal}
 use Rattle.dimacs_syntax.specs.Cited.{flat_map}
 use Rattle.qbf_tokens.specs.Canonical.{spaced_number}
-use Rattle.qrp.specs.Inferences.{Inference}
+use Rattle.trace_items.specs.Inferences.{Inference}
 use Rattle.dimacs_syntax.specs.Texts.{literal_text, closing}
 
 -- the line of a step

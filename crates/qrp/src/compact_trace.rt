@@ -1,13 +1,10 @@
 //! Traces that are read as a whole to be checked, and take less memory.
 
 ghost use Rattle.std.specs.Prelude.{◌≡◌};
-ghost use Rattle.qrp.specs.Derivations.{IsWellFormed};
+ghost use Rattle.trace_items.specs.Derivations.{IsWellFormed};
 ghost use Rattle.qrp.specs.Returns.{ReadsTrace};
 
 use crate::fault::TraceFault;
-use crate::flat_sets::FlatSets;
-use crate::item::{Header, Outcome};
-use crate::kept_steps::KeptSteps;
 use crate::parts::Parts;
 use crate::whole_trace::read_parts;
 use qbf_core::Lit;
@@ -15,6 +12,7 @@ use qbf_text::Source;
 use std::alloc::Global;
 use std::marker::Model;
 use step_antecedents::{AntecedentWords, Antecedents};
+use trace_items::{FlatSets, Header, KeptSteps, Outcome};
 
 /// A trace that was read as a whole. Its antecedents take four bytes each as long as all of them
 /// fit, so it gives them and cannot lend them.
@@ -27,7 +25,7 @@ pub struct CompactTrace {
 }
 
 impl Model for CompactTrace {
-    ghost use Rattle.qrp.specs.Derivations.{Derivation};
+    ghost use Rattle.trace_items.specs.Derivations.{Derivation};
     ghost use Rattle.qrp.specs.Flat.{kept_of, trace_of, IsFlat};
 
     ghost Value = { Derivation };
@@ -72,7 +70,7 @@ impl KeptSteps for CompactTrace {
     }
 
     #[inline(always)]
-    #[tactic(auto, using(crate::proofs::Positions::only_at))]
+    #[tactic(auto, using(trace_items::proofs::Positions::only_at))]
     fn number(&self, i: usize) -> u64 {
         self.parts.lists.index.number(i)
     }
@@ -90,7 +88,7 @@ impl KeptSteps for CompactTrace {
     }
 
     #[inline(always)]
-    #[tactic(auto, using(crate::proofs::Positions::step_found))]
+    #[tactic(auto, using(trace_items::proofs::Positions::step_found))]
     fn position(&self, number: u64) -> Option<usize> {
         self.parts.lists.index.position(number)
     }

@@ -7,7 +7,6 @@ ghost use Rattle.qrp.specs.Reading.{AtP};
 
 use crate::buffered_numbers::{NextPlaces, take_part};
 use crate::fault::TraceFault;
-use crate::item::{Item, QuantSet, Step};
 use crate::parts::Parts;
 use crate::states::{Lists, Part, State, take_at};
 use dimacs_syntax::HeaderAt;
@@ -17,6 +16,7 @@ use qbf_tokens::Token;
 use std::alloc::{AllocError, Global};
 use std::marker::Model;
 use std::mem;
+use trace_items::{Item, QuantSet, Step};
 use window_numbers::{Values, Zeros};
 
 /// A trace whose parts are given one after the other.

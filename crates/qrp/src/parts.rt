@@ -6,13 +6,12 @@ ghost use Rattle.qrp.specs.Flat.{after_close, kept_of, nothing_kept, ClosesPart,
 ghost use Rattle.qrp.specs.States.{IsComplete, Stays};
 ghost use Rattle.step_index.specs.Numbers.{is_used, AreStepNumbers};
 
-use crate::flat_sets::FlatSets;
-use crate::item::Header;
 use crate::states::{Lists, Part};
 use qbf_core::{GrowingLists, Var};
 use std::alloc::{AllocError, Global};
 use step_antecedents::{AntecedentLists, AntecedentPair};
 use step_index::StepIndex;
+use trace_items::{FlatSets, Header};
 
 /// The parts of a trace. The antecedents of its whole steps are kept in an `A`.
 #[derive(Drop)]

@@ -13,13 +13,13 @@ ghost use Rattle.qrp.specs.Items.{ReadsItem, IsItem, IsDriven};
 ghost use Rattle.qrp.specs.Reading.{items};
 
 use crate::fault::{TraceFault, trace_fault};
-use crate::item::{Item, Outcome};
 use crate::items::ItemGrammar;
 use qbf_text::{Scanner, Source, read_by};
 use qbf_tokens::Comments;
 use std::alloc::Global;
 use std::marker::Model;
 use step_index::StepIndex;
+use trace_items::{Item, Outcome};
 
 /// How far a reader is: before the header, between lists, or done for good.
 #[derive(Clone, Copy)]

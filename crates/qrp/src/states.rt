@@ -7,7 +7,6 @@ ghost use Rattle.qrp.specs.States.{state_at, Moves, Leads, IsSound};
 ghost use Rattle.qrp.specs.Reading.{row};
 
 use crate::fault::TraceFault;
-use crate::item::{Header, Outcome};
 use crate::tokens::{
     FAULTS, FORM, ItemStart, decode_antecedent, decode_item_start, decode_outcome,
 };
@@ -17,6 +16,7 @@ use qbf_text::Stop;
 use qbf_tokens::Token;
 use step_antecedents::AntecedentPair;
 use step_index::StepIndex;
+use trace_items::{Header, Outcome};
 
 /// The place of the next token. The lists so far are in `Lists`.
 #[derive(Clone, Copy)]

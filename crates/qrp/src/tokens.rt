@@ -1,14 +1,14 @@
 //! The meaning of one token at its place in a trace.
 
 ghost use Rattle.std.specs.Prelude.{◌≡◌, ◌<◌, ◌^◌, true, IfOk, IfSome};
-ghost use Rattle.qrp.specs.Inferences.{IsNumber};
+ghost use Rattle.trace_items.specs.Inferences.{IsNumber};
 ghost use Rattle.qrp.specs.Reading.{decode_antecedent, decode_item_start, decode_outcome};
 
 use crate::fault::TraceFault;
-use crate::item::Outcome;
 use dimacs_syntax::{Faults, HeaderForm};
 use qbf_core::Quantifier;
 use qbf_tokens::{Token, Word};
+use trace_items::Outcome;
 
 /// The faults that tokens of a trace can be.
 pub const FAULTS: Faults<TraceFault> = Faults {

@@ -9,7 +9,6 @@ ghost use Rattle.window_numbers.specs.Values.{numbers_of};
 
 use crate::buffered_numbers::take_steps;
 use crate::fault::{TraceFault, trace_fault};
-use crate::item::Outcome;
 use crate::parts::{Parts, close};
 use crate::states::{Part, State, take_at};
 use dimacs_syntax::HeaderAt;
@@ -18,6 +17,7 @@ use qbf_tokens::{Comments, Token};
 use std::alloc::{AllocError, Global};
 use std::marker::Model;
 use step_antecedents::AntecedentLists;
+use trace_items::Outcome;
 use window_numbers::{Values, Zeros};
 
 /// A trace that is read as a whole. The antecedents of its whole steps are kept in an `A`.

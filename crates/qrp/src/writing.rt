@@ -5,23 +5,21 @@ ghost use Rattle.std.proofs.Props.{props};
 ghost use Rattle.std.specs.List.{AllByRecursion, flat_map};
 ghost use Rattle.qbf_tokens.specs.Canonical.{line_text};
 ghost use Rattle.qbf_text.specs.Written.{IsPut};
-ghost use Rattle.qrp.specs.Derivations.{steps_at, with_steps_at};
+ghost use Rattle.trace_items.specs.Derivations.{steps_at, with_steps_at};
 ghost use Rattle.qrp.specs.Framed.{framed};
 ghost use Rattle.qrp.specs.Grammar.{header, result as result_line, text};
-ghost use Rattle.qrp.specs.Inferences.{Inference, IsAt};
+ghost use Rattle.trace_items.specs.Inferences.{Inference, IsAt};
 ghost use Rattle.qrp.specs.Reading.{read_trace};
 ghost use Rattle.dimacs_syntax.specs.Texts.{set_text};
 ghost use Rattle.qrp.specs.Texts.{step_text, steps_text};
 
 use crate::compact_trace::CompactTrace;
-use crate::flat_sets::{FlatSets, KeptSets};
-use crate::item::{Header, Outcome, QuantSet};
-use crate::kept_steps::{KeptSteps, LentSteps};
 use crate::trace::Trace;
 use dimacs_syntax::{Bare, Bytes, HeaderLine, Put};
 use qbf_core::{Lit, Quantifier, Var};
 use qbf_text::{Sink, SinkFault, put_bytes};
 use step_antecedents::Antecedents;
+use trace_items::{Header, KeptSets, KeptSteps, LentSets, LentSteps, Outcome};
 
 /// The line of a set with this quantifier and these variables.
 #[inline(always)]
@@ -32,21 +30,12 @@ fn put_set<K: Sink>(sink: &mut K, quantifier: Quantifier, vars: &[Var]) -> Resul
     (quantifier, (vars, Bytes(b" 0\n"))).put(sink)
 }
 
-/// The line of a set.
-impl Put for QuantSet {
-    ghost text = { set_text };
-
-    fn put<K: Sink>(&self, sink: &mut K) -> Result<(), SinkFault> {
-        put_set(sink, self.quantifier, &self.vars)
-    }
-}
-
-/// The lines of all sets.
+/// The lines of sets.
 #[derive(Clone, Copy)]
-struct SetLines<'a>(&'a FlatSets);
+struct SetLines<'a, T: KeptSets>(&'a T);
 
-impl<'a> Put for SetLines<'a> {
-    ghost text = { λ s. flat_map set_text s.0.now };
+impl<'a, T: KeptSets> Put for SetLines<'a, T> {
+    ghost text = { λ s. flat_map set_text (T.sets s.0.now) };
 
     fn put<K: Sink>(&self, sink: &mut K) -> Result<(), SinkFault> {
         for place in 0..self.0.len() {
@@ -58,11 +47,14 @@ impl<'a> Put for SetLines<'a> {
 }
 
 /// The line of a result.
-impl Put for Outcome {
-    ghost text = { λ o. line_text (result_line o) };
+#[derive(Clone, Copy)]
+struct ResultLine(Outcome);
+
+impl Put for ResultLine {
+    ghost text = { λ r. line_text (result_line r.0) };
 
     fn put<K: Sink>(&self, sink: &mut K) -> Result<(), SinkFault> {
-        match self {
+        match self.0 {
             Outcome::Sat => put_bytes(sink, b"r sat\n"),
             Outcome::Unsat => put_bytes(sink, b"r unsat\n"),
         }
@@ -150,8 +142,9 @@ pub fn write_trace<K: Sink>(trace: &Trace, sink: &mut K) -> Result<(), SinkFault
 {
     let Header { vars, steps } = trace.header();
     let header = HeaderLine(b"p qrp", vars, steps);
-    let kept = LentSteps(trace);
-    (header, (trace.sets(), (StepLines(&kept), trace.result()))).put(sink)
+    let (sets, steps) = (LentSets(trace.sets()), LentSteps(trace));
+    let result = ResultLine(trace.result());
+    (header, (SetLines(&sets), (StepLines(&steps), result))).put(sink)
 }
 
 /// What the text of a trace with no sets has beside its steps.
@@ -188,7 +181,7 @@ pub fn write_framed<K: Sink>(trace: &Trace, frame: Frame, sink: &mut K) -> Resul
     let _ = trace.result();
     let kept = LentSteps(trace);
     let header = framed_header(frame, kept.len());
-    (header, (StepLines(&kept), frame.result)).put(sink)
+    (header, (StepLines(&kept), ResultLine(frame.result))).put(sink)
 }
 
 /// Writes the same with only the steps at these positions, each below the number of steps.
@@ -211,7 +204,7 @@ pub fn write_framed_at<K: Sink>(
         trace: &kept,
         positions,
     };
-    (header, (lines, frame.result)).put(sink)
+    (header, (lines, ResultLine(frame.result))).put(sink)
 }
 
 /// The header with this number of steps in place of its own.
@@ -245,5 +238,6 @@ pub fn write_steps_at<K: Sink>(
     let Header { vars, steps } = counted(trace.header(), positions.len());
     let header = HeaderLine(b"p qrp", vars, steps);
     let lines = StepLinesAt { trace, positions };
-    (header, (SetLines(trace.sets()), (lines, trace.result()))).put(sink)
+    let result = ResultLine(trace.result());
+    (header, (SetLines(trace.sets()), (lines, result))).put(sink)
 }

@@ -4,8 +4,8 @@ use Rattle.std.proofs.lemmas.List.{map-append}
 use Rattle.std.proofs.lemmas.Option.{slice_get-get_or}
 use Rattle.std.specs.List.{AllByRecursion}
 use Rattle.qbf_core.proofs.DistinctNumbers.{all_at}
-use Rattle.qrp.specs.Derivations.{Derivation, steps_at}
-use Rattle.qrp.specs.Inferences.{Inference, IsAt, numbers}
+use Rattle.trace_items.specs.Derivations.{Derivation, steps_at}
+use Rattle.trace_items.specs.Inferences.{Inference, IsAt, numbers}
 use Rattle.qrp_rules.specs.declared.rules.Rules.{Rules}
 use Rattle.qrp_check.proofs.StepsAt.{next_at}
 use Rattle.qrp_check.specs.Verdict.{is_sat}

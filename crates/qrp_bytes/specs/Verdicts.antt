@@ -3,7 +3,7 @@ use Rattle.std.specs.Prelude.{◌≡◌, ◌↔◌, ◌⊎◌, ℕ, if◌then◌
 use Rattle.qbf_core.specs.Qbf.{Qbf}
 use Rattle.qbf_core.specs.Truth.{IsTrueFormula, ResultHolds}
 use Rattle.qdimacs.specs.Reading.{read_formula}
-use Rattle.qrp.specs.Derivations.{Derivation}
+use Rattle.trace_items.specs.Derivations.{Derivation}
 use Rattle.qrp.specs.Reading.{read_trace}
 use Rattle.qrp_rules.specs.declared.rules.Rules.{Rules}
 use Rattle.qrp_check.specs.declared.verdict.Verified.{Verified}

@@ -2,9 +2,9 @@
 
 ghost use Rattle.std.specs.Prelude.{◌≡◌, ◌<◌, length, IfOk, IfErr, Err};
 ghost use Rattle.std.specs.List.{AllByRecursion};
-ghost use Rattle.qrp.specs.Derivations.{Derivation, steps_at};
+ghost use Rattle.trace_items.specs.Derivations.{Derivation, steps_at};
 ghost use Rattle.qrp.specs.Grammar.{text};
-ghost use Rattle.qrp.specs.Inferences.{numbers};
+ghost use Rattle.trace_items.specs.Inferences.{numbers};
 ghost use Rattle.qrp_check.specs.Trim.{trimmed_trace};
 ghost use Rattle.qrp_check.specs.Verdict.{is_sat};
 ghost use Rattle.qrp_check.specs.Checked.{IsChecked, IsTruthOf};

@@ -4,7 +4,7 @@ use Rattle.qbf_core.specs.Qbf.{Qbf}
 use Rattle.qbf_core.specs.Truth.{IsTrueFormula}
 use Rattle.qbf_text.specs.Pieces.{Kept}
 use Rattle.qrp.specs.Grammar.{text}
-use Rattle.qrp.specs.Inferences.{Inference}
+use Rattle.trace_items.specs.Inferences.{Inference}
 use Rattle.qrp_rules.specs.declared.rules.Rules.{Rules}
 use Rattle.qrp_check.specs.Proof.{IsFirstFault}
 use Rattle.qrp_check.specs.Trim.{trimmed_trace}

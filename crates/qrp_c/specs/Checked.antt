@@ -2,9 +2,9 @@
 use Rattle.std.specs.Prelude.{◌≡◌, ◌≢◌, ◌↔◌, ◌⊎◌, ℕ, Bool, IsTrue, List, []}
 use Rattle.qbf_core.specs.Qbf.{Qbf}
 use Rattle.qbf_core.specs.Truth.{IsTrueFormula}
-use Rattle.qrp.specs.Derivations.{steps_at}
+use Rattle.trace_items.specs.Derivations.{steps_at}
 use Rattle.qrp.specs.Grammar.{text}
-use Rattle.qrp.specs.Inferences.{Inference, numbers}
+use Rattle.trace_items.specs.Inferences.{Inference, numbers}
 use Rattle.qrp_rules.specs.declared.rules.Rules.{Rules}
 use Rattle.qrp_check.specs.declared.fault.CheckFault.{CheckFault}
 use Rattle.qrp_check.specs.declared.fault.CheckFault.TheVariants.{C5}

@@ -11,10 +11,10 @@ pub use Rattle.qbf_core.specs.Qbf.{IsClosed, Qbf}
 pub use Rattle.qbf_core.specs.Rules.{Clashes, Clauses, Cubes, IsClean, IsInitial, IsReduct, Side, resolvent}
 pub use Rattle.qbf_core.specs.Truth.{IsTrueFormula, ResultHolds}
 pub use Rattle.qbf_core.specs.declared.quantifier.Quantifier.{Quantifier}
-pub use Rattle.qrp.proofs.Positions.{HasOwnNumbers, own_numbers}
-pub use Rattle.qrp.specs.Derivations.{Derivation, steps_at}
-pub use Rattle.qrp.specs.Inferences.{Inference, IsAt, numbers}
-pub use Rattle.qrp.specs.declared.item.Outcome.{Outcome}
+pub use Rattle.trace_items.proofs.Positions.{HasOwnNumbers, own_numbers}
+pub use Rattle.trace_items.specs.Derivations.{Derivation, steps_at}
+pub use Rattle.trace_items.specs.Inferences.{Inference, IsAt, numbers}
+pub use Rattle.trace_items.specs.declared.item.Outcome.{Outcome}
 pub use Rattle.qrp_check.specs.Laws.{AreOfCore, CoreKeepsTheTruth, IsTrueWithSets}
 pub use Rattle.qrp_check.specs.Marks.{ListsMarked}
 pub use Rattle.qrp_check.specs.Passed.{FailsIn, Passes}

@@ -4,7 +4,7 @@ use Rattle.qrp_check.proofs.Cited.{slice_get, slice_get_cases, slice_get_within,
 use Rattle.qrp_check.proofs.Cited.{HasOwnNumbers, own_numbers, ListsCore}
 use Rattle.std.proofs.Common.{◌^◌}
 use Rattle.std.specs.List.{IsDistinct}
-use Rattle.qrp.specs.Derivations.{IsWellFormed}
+use Rattle.trace_items.specs.Derivations.{IsWellFormed}
 use Rattle.qrp.proofs.ReadingLaws.{text_is_read}
 use Rattle.qrp_check.specs.Laws.{TrimmedTextProves}
 use Rattle.qrp_check.specs.Trim.{trimmed_trace}

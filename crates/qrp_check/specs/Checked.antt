@@ -5,7 +5,7 @@ use Rattle.qbf_core.specs.Qbf.{Qbf}
 use Rattle.qbf_text.specs.declared.source.Source as source
 use Rattle.qbf_text.specs.Stopping.{IfKnown}
 use Rattle.qrp.specs.Returns.{reads_bytes}
-use Rattle.qrp.specs.Derivations.{Derivation, IsWellFormed}
+use Rattle.trace_items.specs.Derivations.{Derivation, IsWellFormed}
 use Rattle.qrp_rules.specs.declared.rules.Rules.{Rules}
 use Rattle.qrp_check.specs.declared.verdict.Verified.{Verified}
 use Rattle.qrp_check.specs.declared.verdict.Fault.{Fault}

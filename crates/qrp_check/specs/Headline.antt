@@ -9,7 +9,7 @@ use Rattle.qbf_tokens.specs.declared.token.Comments.TheVariants.{Qdimacs, Qrp}
 use Rattle.qbf_tokens.specs.Lined.{without_lines}
 use Rattle.qbf_tokens.specs.Tokens.{tokens}
 use Rattle.qdimacs.specs.Grammar.{IsFormula}
-use Rattle.qrp.specs.Derivations.{Derivation}
+use Rattle.trace_items.specs.Derivations.{Derivation}
 use Rattle.qrp.specs.Grammar.{IsTrace}
 use Rattle.qrp_rules.specs.declared.rules.Rules.{Rules}
 use Rattle.qrp_check.specs.declared.verdict.Verified.{Verified}

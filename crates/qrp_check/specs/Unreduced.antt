@@ -5,8 +5,8 @@ use Rattle.qbf_core.specs.Members.{◌∈◌}
 use Rattle.qbf_core.specs.Blocks.{Block, AreBound}
 use Rattle.qbf_core.specs.Qbf.{Qbf}
 use Rattle.qbf_core.specs.Rules.{Side, IsClean}
-use Rattle.qrp.specs.declared.item.Outcome.{Outcome}
-use Rattle.qrp.specs.Inferences.{Inference, IsAt}
+use Rattle.trace_items.specs.declared.item.Outcome.{Outcome}
+use Rattle.trace_items.specs.Inferences.{Inference, IsAt}
 use Rattle.qrp_rules.specs.declared.rules.Rules.{Rules}
 use Rattle.qrp_rules.specs.declared.fault.RuleFault.{RuleFault}
 use Rattle.core_walk.specs.Conditions.{IsNumberOf, lits_of}

@@ -3,8 +3,8 @@
 ghost use Rattle.std.specs.Prelude.{◌≡◌, ◌<◌, [], ◌++◌, length, OnOk, IfOk};
 ghost use Rattle.std.specs.List.{AllByRecursion};
 ghost use Rattle.std.specs.List.Sorted.{IsStrictlyIncreasing};
-ghost use Rattle.qrp.specs.Derivations.{IsWellFormed, steps_at};
-ghost use Rattle.qrp.specs.Inferences.{IsAt};
+ghost use Rattle.trace_items.specs.Derivations.{IsWellFormed, steps_at};
+ghost use Rattle.trace_items.specs.Inferences.{IsAt};
 ghost use Rattle.qrp_check.specs.Trim.{trimmed_trace};
 
 use crate::verdict::Verified;
@@ -32,7 +32,7 @@ struct LentStep<'a> {
 }
 
 impl<'a> Model for LentStep<'a> {
-    ghost use Rattle.qrp.specs.Inferences.{Inference};
+    ghost use Rattle.trace_items.specs.Inferences.{Inference};
 
     ghost Value = { Inference };
 
@@ -66,7 +66,7 @@ fn push_sets(alloc: Global, trace: &mut Trace, sets: &[QuantSet]) -> Result<(), 
 }
 
 /// Adds copies of the steps at some positions of a trace to another that has none.
-#[tactic(auto, using(crate::proofs::StepsAt::fresh_at, crate::proofs::StepsAt::next_at, qrp::proofs::Positions::own_numbers, qbf_core::proofs::DistinctNumbers::all_at))]
+#[tactic(auto, using(crate::proofs::StepsAt::fresh_at, crate::proofs::StepsAt::next_at, trace_items::proofs::Positions::own_numbers, qbf_core::proofs::DistinctNumbers::all_at))]
 fn push_steps(shorter: &mut Trace, trace: &Trace, positions: &[usize]) -> Result<(), AllocError>
     requires sound { IsWellFormed trace.now }
     requires empty { shorter.old.steps ≡ [] }

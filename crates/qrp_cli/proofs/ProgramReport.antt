@@ -16,7 +16,7 @@ use Rattle.qrp_check.specs.Headline.{Headline}
 use Rattle.qrp_report.specs.Lines.{fault_line, verdict_line}
 use Rattle.qrp_report.specs.Refusals.{fault_status, formula_number, trace_number}
 use Rattle.qrp_cli.specs.Output.{IsOn, IsReportedTo, IsSent, PrintsVerdict, Report, check_report, refusal, refusals, success, trimmed_result}
-use Rattle.qrp.specs.Derivations.{Derivation}
+use Rattle.trace_items.specs.Derivations.{Derivation}
 use Rattle.qrp_check.specs.Checked.{SourceCall, IsChecked, StopsOnceRead, WasReadFrom, truth_of, verdict_of}
 use Rattle.qrp_check.specs.declared.verdict.Fault.TheVariants as fault
 use Rattle.qrp_report.specs.Results.{IsTrimmed}

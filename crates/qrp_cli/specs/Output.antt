@@ -12,7 +12,7 @@ use Rattle.qrp_rules.specs.declared.rules.Rules.{Rules}
 use Rattle.qrp_check.specs.declared.verdict.Verified.{Verified}
 use Rattle.qrp_check.specs.declared.verdict.Fault.{Fault}
 use Rattle.qrp_check.specs.declared.verdict.Fault.TheVariants as fault
-use Rattle.qrp.specs.Derivations.{Derivation}
+use Rattle.trace_items.specs.Derivations.{Derivation}
 use Rattle.qrp.specs.Grammar as trace
 use Rattle.qrp_check.specs.Checked.{SourceCall, IsChecked, StopsOnceRead}
 use Rattle.qrp_check.specs.Headline.{Headline}

@@ -13,8 +13,8 @@ use Rattle.qbf_tokens.specs.Lined.{without_lines}
 use Rattle.qbf_tokens.specs.Tokens.{tokens}
 use Rattle.qdimacs.specs.Grammar.{IsFormula}
 use Rattle.qdimacs.specs.Reading.{read_formula}
-use Rattle.qrp.specs.Derivations.{AreGrammatical, IsWellFormed}
-use Rattle.qrp.specs.Inferences.{IsInference, IsLiteral}
+use Rattle.trace_items.specs.Derivations.{AreGrammatical, IsWellFormed}
+use Rattle.trace_items.specs.Inferences.{IsInference, IsLiteral}
 use Rattle.qrp.specs.Grammar.{text}
 use Rattle.qrp.proofs.ReadingLaws.{text_is_read}
 use Rattle.qrp_check.specs.Headline.{IsShown, Headline}

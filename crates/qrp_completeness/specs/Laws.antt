@@ -5,9 +5,9 @@ use Rattle.qbf_core.specs.Rules.{Side, deciding_quantifier}
 use Rattle.qbf_core.specs.Qbf.{Qbf, IsWellFormed as IsWellFormedFormula}
 use Rattle.qbf_core.specs.Truth.{ResultHolds}
 use Rattle.qdimacs.specs.Reading.{read_formula}
-use Rattle.qrp.specs.declared.item.Outcome.{Outcome}
-use Rattle.qrp.specs.Inferences.{Inference}
-use Rattle.qrp.specs.Derivations.{Derivation, AreGrammatical, IsWellFormed}
+use Rattle.trace_items.specs.declared.item.Outcome.{Outcome}
+use Rattle.trace_items.specs.Inferences.{Inference}
+use Rattle.trace_items.specs.Derivations.{Derivation, AreGrammatical, IsWellFormed}
 use Rattle.qrp.specs.Grammar.{text}
 use Rattle.qrp.specs.Reading.{read_trace}
 use Rattle.qrp_rules.specs.declared.rules.Rules.{Rules}

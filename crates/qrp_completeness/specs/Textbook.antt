@@ -8,8 +8,8 @@ use Rattle.qbf_core.specs.Members.{◌∈◌}
 use Rattle.qbf_core.specs.Blocks.{AreBound, pairs, variables}
 use Rattle.qbf_core.specs.Qbf.{Qbf, IsClosed}
 use Rattle.qbf_core.specs.Rules.{Side, Clauses, Cubes, IsClean, reduced_quantifier, deciding_quantifier}
-use Rattle.qrp.specs.declared.item.Outcome.{Outcome}
-use Rattle.qrp.specs.Inferences.{Inference, IsAt}
+use Rattle.trace_items.specs.declared.item.Outcome.{Outcome}
+use Rattle.trace_items.specs.Inferences.{Inference, IsAt}
 use Rattle.qrp_rules.specs.declared.rules.Rules.{Rules}
 use Rattle.core_walk.specs.Conditions.{IsNumberOf, lits_of}
 use Rattle.core_walk.specs.Core.{IsGoal, IsInCore}

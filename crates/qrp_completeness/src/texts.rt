@@ -4,7 +4,7 @@ ghost use Rattle.std.specs.Prelude.{◌≡◌, ◌⊎◌, IsOk, Ok};
 ghost use Rattle.qbf_core.specs.Qbf.{Qbf};
 ghost use Rattle.qdimacs.specs.Reading.{read_formula};
 ghost use Rattle.qrp.specs.Grammar.{text};
-ghost use Rattle.qrp.specs.declared.item.Outcome.{Outcome};
+ghost use Rattle.trace_items.specs.declared.item.Outcome.{Outcome};
 ghost use Rattle.qrp_check.specs.Headline.{Headline};
 ghost use Rattle.qrp_check.specs.Verdict.{IsOutOfMemory};
 ghost use Rattle.qrp_completeness.specs.Laws.{HasTrace};

@@ -6,7 +6,7 @@ use Rattle.qbf_text.specs.Written.{AppendsFront}
 use Rattle.qrp.specs.declared.fault.TraceFault.{TraceFault}
 use Rattle.qrp.specs.declared.fault.TraceFault.TheVariants.{P1, P9}
 use Rattle.qrp.specs.Returns.{Gives, reads_bytes}
-use Rattle.qrp.specs.Derivations.{Derivation}
+use Rattle.trace_items.specs.Derivations.{Derivation}
 use Rattle.qrp.specs.Reading.{Fault}
 
 -- 1: the bytes are not a trace; 3: the source failed; 4: an allocation failed

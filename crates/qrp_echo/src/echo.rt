@@ -1,7 +1,7 @@
 //! A trace from its source to a sink.
 
 ghost use Rattle.std.specs.Prelude.{◌≡◌, Result, IfOk, IfErr};
-ghost use Rattle.qrp.specs.Derivations.{Derivation};
+ghost use Rattle.trace_items.specs.Derivations.{Derivation};
 ghost use Rattle.qrp.specs.Grammar.{text};
 ghost use Rattle.qrp.specs.Reading.{Fault};
 ghost use Rattle.qrp_echo.specs.Echoed.{IsRead, IsEchoed, status_of};

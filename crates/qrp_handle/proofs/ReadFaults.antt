@@ -2,7 +2,7 @@
 use Rattle.std.proofs.Common.{arith, ℕ, ℤ, List}
 use Rattle.std.proofs.lemmas.Grind.{common_steps}
 use Rattle.qbf_core.specs.Qbf.{Qbf}
-use Rattle.qrp.specs.Inferences.{Inference}
+use Rattle.trace_items.specs.Inferences.{Inference}
 use Rattle.qrp_handle.specs.Adding.{IsReadFault, IsClauseFault, IsStepFault}
 use Rattle.qrp_handle.specs.declared.fault.AddFault.{AddFault}
 

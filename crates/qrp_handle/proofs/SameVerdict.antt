@@ -5,8 +5,8 @@ use Rattle.qbf_core.specs.Literal.{Literal}
 use Rattle.qbf_core.specs.Members.{◌∈◌}
 use Rattle.qbf_core.specs.Qbf.{Qbf}
 use Rattle.qbf_core.specs.Rules.{Side, Clauses, Cubes, IsClean}
-use Rattle.qrp.specs.Inferences.{Inference}
-use Rattle.qrp.specs.declared.item.Outcome.{Outcome}
+use Rattle.trace_items.specs.Inferences.{Inference}
+use Rattle.trace_items.specs.declared.item.Outcome.{Outcome}
 use Rattle.qrp_rules.specs.Conditions.{AllHold, Condition, IsFirstFailure}
 use Rattle.qrp_rules.specs.declared.fault.RuleFault.{RuleFault}
 use Rattle.qrp_rules.specs.declared.fault.RuleFault.TheVariants.{S1, S2, S3}

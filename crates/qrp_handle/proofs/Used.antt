@@ -2,7 +2,7 @@
 use Rattle.std.proofs.Common.{◌≡◌, ℕ, zero, suc, true, false, ◌||◌, ◌⊎◌, inl, inr, nat_eq, List, [], ◌∷◌, Option, Some, None, is_some, IfSome, refl, arith, tests}
 use Rattle.std.proofs.lemmas.Bool.{cases_Bool}
 use Rattle.std.proofs.lemmas.Grind.{common_steps}
-use Rattle.qrp.specs.Inferences.{Inference, IsAt, numbers}
+use Rattle.trace_items.specs.Inferences.{Inference, IsAt, numbers}
 use Rattle.step_index.specs.Numbers.{is_used}
 
 -- the number of a step is used

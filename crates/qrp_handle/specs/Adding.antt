@@ -3,7 +3,7 @@ use Rattle.std.specs.Prelude.{◌≡◌, ℕ, ℤ, true, ◌<◌, ◌≤◌, Lis
 use Rattle.std.specs.List.{AllByRecursion}
 use Rattle.qbf_core.specs.Blocks.{AreBound, IsBound}
 use Rattle.qbf_core.specs.Qbf.{Qbf}
-use Rattle.qrp.specs.Inferences.{Inference, IsNumber, numbers}
+use Rattle.trace_items.specs.Inferences.{Inference, IsNumber, numbers}
 use Rattle.step_index.specs.Numbers.{is_used}
 use Rattle.qbf_core.specs.WrittenLiterals.{IsWritten, literal_of}
 use Rattle.qrp_handle.specs.declared.fault.AddFault.{AddFault}

@@ -1,8 +1,8 @@
 -- The verdict on what was handed over is that on its texts.
 use Rattle.std.specs.Prelude.{◌↔◌, List, []}
 use Rattle.qbf_core.specs.Qbf.{Qbf}
-use Rattle.qrp.specs.Inferences.{Inference}
-use Rattle.qrp.specs.declared.item.Outcome.{Outcome}
+use Rattle.trace_items.specs.Inferences.{Inference}
+use Rattle.trace_items.specs.declared.item.Outcome.{Outcome}
 use Rattle.qrp_rules.specs.declared.rules.Rules.{Rules}
 use Rattle.qrp_check.specs.declared.fault.CheckFault.{CheckFault}
 use Rattle.qrp_check.specs.Proof.{IsFirstFault, IsProof, Proves}

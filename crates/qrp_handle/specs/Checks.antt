@@ -1,17 +1,17 @@
 -- The result or the quantifier that a caller in C gives by a truth value, and what is known of all that was handed over.
 use Rattle.std.specs.Prelude.{Bool, true, false, List, [], ℕ, ◌<◌, length}
 use Rattle.std.specs.List.{AllByRecursion}
-use Rattle.qrp.specs.Inferences.{Inference}
+use Rattle.trace_items.specs.Inferences.{Inference}
 use Rattle.core_walk.specs.Core.{ListsCore}
 use Rattle.qrp_check.specs.Proof.{Proves}
 use Rattle.qrp_rules.specs.declared.rules.Rules.{Rules}
 use Rattle.qbf_core.specs.declared.quantifier.Quantifier.{Quantifier}
 use Rattle.qbf_core.specs.declared.quantifier.Quantifier.TheVariants.{All, Exists}
 use Rattle.qbf_core.specs.Qbf.{Qbf, IsWellFormed}
-use Rattle.qrp.specs.Derivations.{Derivation}
-use Rattle.qrp.specs.Derivations as traces
-use Rattle.qrp.specs.declared.item.Outcome.{Outcome}
-use Rattle.qrp.specs.declared.item.Outcome.TheVariants.{Sat, Unsat}
+use Rattle.trace_items.specs.Derivations.{Derivation}
+use Rattle.trace_items.specs.Derivations as traces
+use Rattle.trace_items.specs.declared.item.Outcome.{Outcome}
+use Rattle.trace_items.specs.declared.item.Outcome.TheVariants.{Sat, Unsat}
 
 -- the result that a caller claims of the formula
 abbrev pub outcome_of : Bool → Outcome

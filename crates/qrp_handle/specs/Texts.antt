@@ -2,10 +2,10 @@
 use Rattle.std.specs.Prelude.{ℕ, max, List, [], ◌∷◌}
 use Rattle.qbf_core.specs.Blocks.{pairs, variables}
 use Rattle.qbf_core.specs.Qbf.{Qbf}
-use Rattle.qrp.specs.Derivations.{Derivation}
+use Rattle.trace_items.specs.Derivations.{Derivation}
 use Rattle.qrp.specs.Framed.{framed}
-use Rattle.qrp.specs.Inferences.{Inference}
-use Rattle.qrp.specs.declared.item.Outcome.{Outcome}
+use Rattle.trace_items.specs.Inferences.{Inference}
+use Rattle.trace_items.specs.declared.item.Outcome.{Outcome}
 
 -- the greatest of these numbers, or 0
 abbrev pub greatest : List ℕ → ℕ

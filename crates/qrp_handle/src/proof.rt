@@ -5,7 +5,7 @@ ghost use Rattle.std.specs.Prelude.{IfOk};
 ghost use Rattle.std.specs.List.{AllByRecursion};
 ghost use Rattle.qbf_core.specs.Blocks.{pairs};
 ghost use Rattle.qbf_core.specs.Truth.{IsTrueFormula};
-ghost use Rattle.qrp.specs.Inferences.{IsNumber, numbers};
+ghost use Rattle.trace_items.specs.Inferences.{IsNumber, numbers};
 ghost use Rattle.step_index.specs.Numbers.{is_used};
 ghost use Rattle.qrp_check.specs.declared.fault.CheckFault.TheVariants.{C5};
 ghost use Rattle.qrp_check.specs.Proof.{Proves, IsFirstFault};

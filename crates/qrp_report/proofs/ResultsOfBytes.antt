@@ -5,7 +5,7 @@ use Rattle.qbf_text.specs.WholeTexts.{TellsFailures}
 use Rattle.qdimacs.specs.declared.fault.FormulaFault.{FormulaFault}
 use Rattle.qdimacs.specs.declared.fault.FormulaFault.TheVariants.{F1, F9}
 use Rattle.qdimacs.specs.Reading.{Gives, reads_bytes, read_formula}
-use Rattle.qrp.specs.Derivations.{Derivation, IsWellFormed}
+use Rattle.trace_items.specs.Derivations.{Derivation, IsWellFormed}
 use Rattle.qrp.specs.Reading.{read_trace}
 use Rattle.qrp_rules.specs.declared.rules.Rules.{Rules}
 use Rattle.qrp_check.specs.declared.verdict.Fault.{Fault}

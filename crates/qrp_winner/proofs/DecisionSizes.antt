@@ -10,7 +10,7 @@ use Rattle.qbf_core.specs.declared.quantifier.Quantifier.{Quantifier}
 use Rattle.qbf_strategy.specs.Computing.{size}
 use Rattle.qbf_strategy.specs.Decisions.{Decision, wanted}
 use Rattle.qbf_strategy.specs.Winning.{variables_of}
-use Rattle.qrp.specs.Inferences.{Inference}
+use Rattle.trace_items.specs.Inferences.{Inference}
 use Rattle.qrp_winner.specs.ProofDecisions.{AreDecisionsOf, IsDecisionAt}
 use Rattle.qrp_winner.specs.Sizes.{core_size, literals_before, step_size}
 

@@ -9,8 +9,8 @@ use Rattle.aiger.specs.Circuits.{Circuit}
 use Rattle.qbf_strategy.specs.Computing.{Computes, SeesBefore, size}
 use Rattle.qbf_strategy.specs.Decisions.{Decision, are_set, decided, value_in}
 use Rattle.qbf_strategy.specs.Winning.{IsWinningCircuit, set_in_run}
-use Rattle.qrp.specs.Inferences.{Inference}
-use Rattle.qrp.specs.declared.item.Outcome.{Outcome}
+use Rattle.trace_items.specs.Inferences.{Inference}
+use Rattle.trace_items.specs.declared.item.Outcome.{Outcome}
 use Rattle.core_walk.specs.Core.{ListsCore}
 use Rattle.qrp_check.specs.Proof.{Proves, side_of}
 use Rattle.qrp_rules.specs.declared.rules.Rules.{Rules}

@@ -7,8 +7,8 @@ use Rattle.aiger.specs.Circuits.{Circuit}
 use Rattle.qbf_strategy.specs.Computing.{Computes, SeesBefore}
 use Rattle.qbf_strategy.specs.Decisions.{Decision, play_by}
 use Rattle.qbf_strategy.specs.Winning.{IsWinningCircuit, IsWon}
-use Rattle.qrp.specs.Inferences.{Inference}
-use Rattle.qrp.specs.declared.item.Outcome.{Outcome}
+use Rattle.trace_items.specs.Inferences.{Inference}
+use Rattle.trace_items.specs.declared.item.Outcome.{Outcome}
 use Rattle.core_walk.specs.Core.{ListsCore}
 use Rattle.qrp_check.specs.Proof.{side_of, Proves}
 use Rattle.qrp_rules.specs.declared.rules.Rules.{Rules}

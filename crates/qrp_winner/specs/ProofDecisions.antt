@@ -6,7 +6,7 @@ use Rattle.qbf_core.specs.Blocks.{Block, Binds}
 use Rattle.qbf_core.specs.Qbf.{Qbf}
 use Rattle.qbf_core.specs.Rules.{Side, Clauses, Cubes, IsClean, IsReducible, Clashes, deciding_quantifier, reduced_quantifier}
 use Rattle.qbf_strategy.specs.Decisions.{Decision, wanted}
-use Rattle.qrp.specs.Inferences.{Inference, IsAt}
+use Rattle.trace_items.specs.Inferences.{Inference, IsAt}
 use Rattle.core_walk.specs.Conditions.{lits_of}
 use Rattle.qrp_check.specs.Sets.{IsNotAfter}
 use Rattle.qrp_winner.specs.Sizes.{literals_before}

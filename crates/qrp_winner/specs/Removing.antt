@@ -6,7 +6,7 @@ use Rattle.qbf_core.specs.Members.{◌∈◌, ◌⊆◌}
 use Rattle.qbf_core.specs.Qbf.{Qbf}
 use Rattle.qbf_core.specs.Rules.{Side, Clauses, Cubes, Clashes, IsClean, IsReducible, IsReduct, reduced_quantifier}
 use Rattle.qbf_strategy.specs.Decisions.{decision_by}
-use Rattle.qrp.specs.Inferences.{Inference}
+use Rattle.trace_items.specs.Inferences.{Inference}
 use Rattle.core_walk.specs.Conditions.{lits_of}
 use Rattle.written_steps.specs.Seen.{Has, Members}
 use Rattle.qrp_rules.specs.Walks.{IsThePivot, TakesOut}

@@ -4,8 +4,8 @@ use Rattle.qbf_core.specs.Blocks.{pairs, variables}
 use Rattle.qbf_core.specs.Literal.{Literal}
 use Rattle.qbf_core.specs.Qbf.{Qbf}
 use Rattle.qbf_core.specs.Rules.{Side, Clauses, Cubes}
-use Rattle.qrp.specs.Derivations.{Derivation}
-use Rattle.qrp.specs.Inferences.{Inference}
+use Rattle.trace_items.specs.Derivations.{Derivation}
+use Rattle.trace_items.specs.Inferences.{Inference}
 use Rattle.core_walk.specs.Conditions.{lits_of}
 use Rattle.core_walk.specs.Core.{ListsCore}
 use Rattle.qrp_check.specs.Proof.{side_of}

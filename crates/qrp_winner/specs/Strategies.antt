@@ -6,7 +6,7 @@ use Rattle.qbf_core.specs.declared.quantifier.Quantifier.{Quantifier}
 use Rattle.qbf_core.specs.declared.quantifier.Quantifier.TheVariants.{All, Exists}
 use Rattle.qbf_core.specs.Qbf.{Qbf}
 use Rattle.qbf_strategy.specs.Winning.{IsWinningCircuit}
-use Rattle.qrp.specs.Derivations.{Derivation}
+use Rattle.trace_items.specs.Derivations.{Derivation}
 use Rattle.qrp_check.specs.Checked.{SourceCall, IsChecked, IsCheckedOf, StopsOnceRead, WasReadFrom}
 use Rattle.qrp_check.specs.Headline.{Spell}
 use Rattle.qrp_check.specs.Verdict.{is_sat}

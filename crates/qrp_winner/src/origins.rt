@@ -3,7 +3,7 @@
 ghost use Rattle.std.specs.Prelude.{◌≡◌, ◌<◌, ◌∷◌, [], ℕ, None, IfNone, IfOk, IfSome, length, take};
 ghost use Rattle.qbf_core.specs.Literal.{Literal, negated};
 ghost use Rattle.qbf_core.specs.Members.{◌∈◌};
-ghost use Rattle.qrp.specs.Inferences.{Inference, IsAt};
+ghost use Rattle.trace_items.specs.Inferences.{Inference, IsAt};
 ghost use Rattle.core_walk.specs.Conditions.{IsNumberOf, StepFollows};
 ghost use Rattle.core_walk.specs.Earlier.{StandsEarlier};
 ghost use Rattle.written_steps.specs.Accepted.{IsFit};

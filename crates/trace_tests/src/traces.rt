@@ -3,7 +3,7 @@
 
 ghost use Rattle.std.specs.Prelude.{◌≡◌, ◌<◌, ◌≤◌, ◌∷◌, [], ◌++◌, length, false, IfOk};
 ghost use Rattle.std.specs.List.{AllByRecursion};
-ghost use Rattle.qrp.specs.Inferences.{IsNumber, numbers};
+ghost use Rattle.trace_items.specs.Inferences.{IsNumber, numbers};
 ghost use Rattle.step_index.specs.Numbers.{is_used};
 
 use qbf_core::{Lit, Quantifier, Var};

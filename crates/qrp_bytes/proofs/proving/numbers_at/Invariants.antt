@@ -1,6 +1,6 @@
 use Rattle.std.proofs.Common.{◌≡◌, take}
-use Rattle.qrp.specs.Derivations.{steps_at}
-use Rattle.qrp.specs.Inferences.{numbers}
+use Rattle.trace_items.specs.Derivations.{steps_at}
+use Rattle.trace_items.specs.Inferences.{numbers}
 use Rattle.qrp_bytes.proofs.proving.numbers_at.Given as goal
 
 abbrev pub invariant-loop-place : goal.invariant-loop-place

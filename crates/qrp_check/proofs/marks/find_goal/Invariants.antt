@@ -1,5 +1,5 @@
 use Rattle.std.proofs.Common.{◌≡◌, ℕ, ◌<◌, ◌≤◌, [], length}
-use Rattle.qrp.specs.Inferences.{Inference, IsAt}
+use Rattle.trace_items.specs.Inferences.{Inference, IsAt}
 use Rattle.qrp_check.proofs.marks.find_goal.Given as goal
 
 abbrev pub invariant-loop-i : goal.invariant-loop-i

@@ -1,4 +1,4 @@
-use Rattle.qrp.proofs.Positions.{step_only}
+use Rattle.trace_items.proofs.Positions.{step_only}
 use Rattle.qrp.proofs.compact_trace.CompactTraceKeptSteps.position.Goals as goal
 
 pub returns-clause-only : goal.returns-clause-only

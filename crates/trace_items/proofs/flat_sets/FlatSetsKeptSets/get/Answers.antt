@@ -1,8 +1,8 @@
 use Rattle.std.proofs.Common.{rules, ◌≡◌, ◌<◌, ℕ, List, Some, length, slice_get, ap, sym, ◌∙◌, subst, refl}
 use Rattle.std.proofs.lemmas.Option.{slice_get_read}
 use Rattle.qbf_core.specs.declared.quantifier.Quantifier.{Quantifier}
-use Rattle.qrp.proofs.SetLists.{sets_at, sets_count}
-use Rattle.qrp.proofs.flat_sets.FlatSetsKeptSets.get.Goals as goal
+use Rattle.trace_items.proofs.SetLists.{sets_at, sets_count}
+use Rattle.trace_items.proofs.flat_sets.FlatSetsKeptSets.get.Goals as goal
 
 pub returns : goal.returns
 returns c =

@@ -1,12 +1,12 @@
 -- A trace (QRP) as contracts see it: its header, its sets, its steps and its result.
 use Rattle.std.specs.Prelude.{◌<◌, ◌^◌, ℕ, List, [], ◌∷◌, ◌++◌, map, length, nat_eq, slice_get}
-use Rattle.dimacs_syntax.specs.Cited.{AllByRecursion, Block, IsVariable}
-use Rattle.std.specs.List.{IsDistinct, filter_map}
-use Rattle.qrp.specs.declared.item.Header.{Header}
-use Rattle.qrp.specs.declared.item.Outcome.{Outcome}
-use Rattle.qrp.specs.declared.item.Item.{Item}
-use Rattle.qrp.specs.declared.item.Item.TheVariants as item
-use Rattle.qrp.specs.Inferences.{Inference, IsInference, numbers}
+use Rattle.std.specs.List.{AllByRecursion, IsDistinct, filter_map}
+use Rattle.qbf_core.specs.Blocks.{Block, IsVariable}
+use Rattle.trace_items.specs.declared.item.Header.{Header}
+use Rattle.trace_items.specs.declared.item.Outcome.{Outcome}
+use Rattle.trace_items.specs.declared.item.Item.{Item}
+use Rattle.trace_items.specs.declared.item.Item.TheVariants as item
+use Rattle.trace_items.specs.Inferences.{Inference, IsInference, numbers}
 
 -- a trace: its header, its sets and steps as written, and its result
 pub record Derivation : Type 0 where

@@ -1,11 +1,12 @@
 -- Quantifier sets in a flat buffer.
-use Rattle.qrp.proofs.Cited.{common_steps, ◌≡◌, ℕ, suc, List, [], ◌∷◌, ◌++◌, length, slice_get, Some, arith, Block, Quantifier}
-use Rattle.qrp.proofs.Cited.{Derivation, IsWellFormed, IsFlat, Kept, Outcome}
-use Rattle.qrp.proofs.Cited.{ap, ◌∙◌, ◌+◌}
+use Rattle.std.proofs.Common.{ap, arith, length, slice_get, suc, List, Some, [], ℕ, ◌++◌, ◌+◌, ◌∙◌, ◌∷◌, ◌≡◌}
 use Rattle.std.specs.Prelude.{take}
+use Rattle.std.proofs.lemmas.Grind.{common_steps}
 use Rattle.std.proofs.lemmas.List.{take_more}
 use Rattle.std.proofs.lemmas.Option.{slice_get_within, get_or_from_slice_get}
-use Rattle.qrp.specs.SetLists.{sets_of, AreSets}
+use Rattle.qbf_core.specs.Blocks.{Block}
+use Rattle.qbf_core.specs.declared.quantifier.Quantifier.{Quantifier}
+use Rattle.trace_items.specs.SetLists.{sets_of}
 
 -- there are as many sets as quantifiers
 pub sets_count : (qs : List Quantifier) (vars : List (List ℕ)) → length vars ≡ length qs → length (sets_of qs vars) ≡ length qs
@@ -28,39 +29,3 @@ sets_more qs vars q vs e = grind (arith, common_steps)
 pub taken_next : (sets : List Block) (i : ℕ) (s : Block) → slice_get sets i ≡ Some s → take (i + 1) sets ≡ take i sets ++ s ∷ []
 taken_next sets i s at = take_more sets i s (slice_get_within sets i s at)
     ∙ ap (λ (next : Block). take i sets ++ next ∷ []) (get_or_from_slice_get sets i s s at)
-
--- ---- a trace with other sets
-
-pub well_formed : (d : Derivation) (sets : List Block) (o : Outcome) → IsWellFormed d → AreSets sets
-    → IsWellFormed (record d { sets = sets; result = o })
-well_formed d sets o w are = record {
-  grammatical = record { variables = are; inferences = w.grammatical.inferences; distinct = w.grammatical.distinct };
-  fits = record {
-    vars = w.fits.vars;
-    steps = w.fits.steps;
-    numbers_fit = w.fits.numbers_fit;
-    ants_fit = w.fits.ants_fit;
-    count = w.fits.count;
-  };
-}
-
-pub other_sets : (k : Kept) (sets : List Block) → IsFlat k → AreSets sets → IsFlat (record k { sets = sets })
-other_sets k sets f are = record {
-  well_formed = record {
-    grammatical = record {
-      variables = are;
-      inferences = f.well_formed.grammatical.inferences;
-      distinct = f.well_formed.grammatical.distinct;
-    };
-    fits = record {
-      vars = f.well_formed.fits.vars;
-      steps = f.well_formed.fits.steps;
-      numbers_fit = f.well_formed.fits.numbers_fit;
-      ants_fit = f.well_formed.fits.ants_fit;
-      count = f.well_formed.fits.count;
-    };
-  };
-  same = f.same;
-  lits_counted = f.lits_counted;
-  ants_counted = f.ants_counted;
-}

@@ -1,7 +1,7 @@
 -- Quantifier sets whose variables lie in a flat buffer.
 use Rattle.std.specs.Prelude.{ℕ, List, [], ◌∷◌}
-use Rattle.dimacs_syntax.specs.Cited.{AllByRecursion, IsVariable}
-use Rattle.qbf_core.specs.Blocks.{Block}
+use Rattle.std.specs.List.{AllByRecursion}
+use Rattle.qbf_core.specs.Blocks.{Block, IsVariable}
 use Rattle.qbf_core.specs.declared.quantifier.Quantifier.{Quantifier}
 
 -- the sets of these quantifiers and variables

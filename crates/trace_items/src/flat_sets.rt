@@ -55,7 +55,7 @@ pub struct FlatSets {
 impl Model for FlatSets {
     ghost use Rattle.std.specs.Prelude.{◌≡◌, List, length};
     ghost use Rattle.qbf_core.specs.Blocks.{Block};
-    ghost use Rattle.qrp.specs.SetLists.{sets_of};
+    ghost use Rattle.trace_items.specs.SetLists.{sets_of};
 
     ghost Value = { List Block };
 

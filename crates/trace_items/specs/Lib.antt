@@ -1,0 +1,3 @@
+pub mod Inferences
+pub mod Derivations
+pub mod SetLists
