@@ -1,18 +1,66 @@
--- The front of a list, and a sign as a number.
-use Rattle.std.proofs.Common.{◌≡◌, ℕ, ◌≤◌, List, take, sym, ap, ◌∙◌, arith, take-take, Bool}
+-- A text after bytes before it, and the bytes before a number.
+use Rattle.std.proofs.Common.{◌≡◌, ℕ, ◌+◌, ◌≤◌, ◌<◌, List, [], ◌∷◌, ◌++◌, length, take, drop, sym, ap, ◌∙◌, arith, take-append-drop, Bool, true, false, suc, decimal}
 use Rattle.std.proofs.lemmas.Grind.{common_steps}
-use Rattle.std.proofs.lemmas.List.{take-set-le}
+use Rattle.std.proofs.lemmas.List.{take-set, take-set-le, take_more_set, drop-set, drop-set-lt, set_split}
 use Rattle.std.specs.Prelude.{set}
+use Rattle.decimal.specs.Digits.{IsPutFrom}
+use Rattle.qbf_tokens.specs.Canonical.{token_text}
+use Rattle.qbf_tokens.specs.declared.token.Token.TheVariants.{Number}
 use mir.Val.{bool_byte}
-
-shorter : (i n : ℕ) (xs ys : List ℕ) → i ≤ n → take n xs ≡ take n ys → take i xs ≡ take i ys
-shorter i n xs ys less same = sym (take-take i n xs less) ∙ ap (take i) same ∙ take-take i n ys less
-
--- the items before a place, when an item there and one further on are set
-pub same_front : (at k n x y : ℕ) (old new : List ℕ) → at ≤ k → at ≤ n → take n new ≡ take n old
-    → take at (set (set new k x) at y) ≡ take at old
-same_front at k n x y old new after less same =
-    take-set-le at (set new k x) at y (omega arith) ∙ take-set-le at new k x after ∙ shorter at n new old less same
 
 pub at_most_one : (negative : Bool) → bool_byte negative ≤ 1
 at_most_one negative = grind (arith, common_steps)
+
+-- some bytes are put from a place on, and then a text behind them
+pub put_behind : (old mid new front text : List ℕ) (at behind end : ℕ) → at ≤ length old → behind ≡ at + length front
+    → take behind mid ≡ take at old ++ front → drop end mid ≡ drop end old → IsPutFrom mid new behind end text
+    → IsPutFrom old new at end (front ++ text)
+put_behind old mid new front text at behind end inside place fronts same put =
+    let whole : new ≡ take at old ++ (front ++ (text ++ drop end old)) =
+    sym (take-append-drop behind new) ∙ (λ i. (put.before ∙ fronts) i ++ (put.written ∙ ap (λ (l : List ℕ). text ++ l) same) i)
+    ∙ grind (arith, common_steps) in
+    record {
+      end_is = grind (arith, common_steps, put.end_is, place);
+      written = rw whole (grind (arith, common_steps, inside));
+      before = rw whole (grind (arith, common_steps, inside));
+    }
+
+-- a blank is put over a minus
+blank_front : (old : List ℕ) (at last : ℕ) → last ≡ at → at < length old
+    → take (last + 1) (set (set old last 45) at 32) ≡ take at old ++ 32 ∷ []
+blank_front old at last same inside = rw same (grind (arith, common_steps, take_more_set, take-set))
+
+-- two lists before others
+first_two : (xs ys zs : List ℕ) (n : ℕ) → n ≡ length xs + length ys → take n (xs ++ (ys ++ zs)) ≡ xs ++ ys
+first_two xs ys zs n count = grind (arith, common_steps, count)
+
+-- a blank is put before a minus
+minus_front : (old : List ℕ) (at last : ℕ) → last ≡ suc at → last < length old
+    → take (last + 1) (set (set old last 45) at 32) ≡ take at old ++ 32 ∷ 45 ∷ []
+minus_front old at last next inside =
+    let whole : set (set old last 45) at 32 ≡ take at old ++ 32 ∷ 45 ∷ drop (last + 1) old =
+    set_split (set old last 45) at 32 (grind (arith, common_steps, inside, next))
+    ∙ (λ i. take-set-le at old last 45 (omega (arith, next)) i
+    ++ 32 ∷ (ap (λ k. drop k (set old last 45)) (sym next) ∙ drop-set old last 45 inside) i) in
+    let count : length (take at old) ≡ at = grind (arith, common_steps, inside, next) in
+    rw whole (first_two (take at old) (32 ∷ 45 ∷ []) (drop (last + 1) old) (last + 1) (omega (arith, count, next)))
+
+-- what a number's blank and minus leave as it is
+after_front : (old : List ℕ) (at last end : ℕ) → at ≤ last → last < end → drop end (set (set old last 45) at 32) ≡ drop end old
+after_front old at last end order after =
+    drop-set-lt end (set old last 45) at 32 (omega (arith, order, after)) ∙ drop-set-lt end old last 45 after
+
+-- a number is put behind a blank and its minus
+pub put_number : (negative : Bool) (n : ℕ) (old new : List ℕ) (at last end : ℕ) → last ≡ at + bool_byte negative → at + 22 ≤ length old
+    → IsPutFrom (set (set old last 45) at 32) new (last + 1) end (decimal n)
+    → IsPutFrom old new at end (32 ∷ token_text (Number negative n))
+put_number false n old new at last end place inside put =
+    let same : last ≡ at = omega (arith, place) in
+    put_behind old (set (set old last 45) at 32) new (32 ∷ []) (decimal n) at (last + 1) end (omega (arith, inside)) (omega (arith, same))
+    (blank_front old at last same (omega (arith, inside)))
+    (after_front old at last end (omega (arith, same)) (omega (arith, put.end_is))) put
+put_number true n old new at last end place inside put =
+    let next : last ≡ suc at = omega (arith, place) in
+    put_behind old (set (set old last 45) at 32) new (32 ∷ 45 ∷ []) (decimal n) at (last + 1) end (omega (arith, inside)) (omega (arith, next))
+    (minus_front old at last next (omega (arith, inside, next)))
+    (after_front old at last end (omega (arith, next)) (omega (arith, put.end_is))) put

@@ -99,7 +99,7 @@ impl Buffer {
         ensures all { result ≡ true → self.new ≡ self.old ++ decimal n }
         ensures none { result ≡ false → self.new ≡ self.old }
     {
-        if ROOM - self.end < LONGEST {
+        if self.end > ROOM - LONGEST {
             return false;
         }
         let end = put_digits(&mut self.bytes, self.end, n);
@@ -114,7 +114,7 @@ impl Buffer {
         ensures all { result ≡ true → self.new ≡ self.old ++ 32 ∷ token_text (Number negative n) }
         ensures none { result ≡ false → self.new ≡ self.old }
     {
-        if ROOM - self.end < LONGEST_SPACED {
+        if self.end > ROOM - LONGEST_SPACED {
             return false;
         }
         let end = put_spaced(&mut self.bytes, self.end, negative, n);
