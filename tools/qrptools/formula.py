@@ -4,10 +4,12 @@ All faults of docs/FORMATS.md are found, in the lines that are not known to be r
 """
 
 from collections.abc import Collection, Iterator, Set
+from functools import cached_property
 from operator import neg
 from typing import NamedTuple, Optional
 
-from qrptools.words import ALL, BLANKS, GREATEST, GREATEST_VARIABLE, Data, Fault, Words, are_whole, value
+from qrptools.listed import LONG, are_listed, clauses_with
+from qrptools.words import ALL, BLANKS, BLOCK, GREATEST, GREATEST_VARIABLE, Data, Fault, Words, are_whole, value
 
 SET_BYTES = frozenset(b"ae")
 COMMENT_BYTES = b"c"
@@ -53,9 +55,9 @@ def clause_of(number: int, line: int, text: bytes) -> Clause:
     return Clause(number, line, literals, is_clean(literals))
 
 
-def are_clauses(block: bytes) -> bool:
+def are_clauses(block: bytes, lines: int) -> bool:
     """Whether each line of a block is a clause, with single blanks and without leading zeros."""
-    return are_whole(block, COMMENT_BYTES, 0)
+    return are_whole(block, lines, COMMENT_BYTES, 0)
 
 
 class Formula:
@@ -151,8 +153,35 @@ class Formula:
         for number, line, block in self.blocks():
             yield number, line, block.split(b" 0\n")[:-1]
 
-    def clauses_with(self, literals: Collection[int]) -> Iterator[tuple[int, int, bytes]]:
+    @cached_property
+    def listed(self) -> bytes:
+        """The text, if it is in memory and known to be right, and each line after the prefix is one clause; else nothing."""
+        words, data = self.words, self.data
+        begins = bool(words.words) and not words.taken and words.good == ALL
+        return data if begins and isinstance(data, bytes) and are_listed(data, words.start, self.count) else b""
+
+    def texts(self) -> Iterator[tuple[int, int, list[bytes]]]:
+        """As `pieces`, but the numbers may have zeros before them, and several blanks between them."""
+        text, number, start = self.listed, 1, self.words.start
+        if not text:
+            yield from self.pieces()
+        while text and number <= self.count:
+            end = text.rfind(b"\n", start, start + BLOCK) + 1 or text.find(b"\n", start + BLOCK) + 1
+            some = text[start:end].split(b" 0\n")[:-1]
+            yield number, self.words.line + number - 1, some
+            number, start = number + len(some), end
+
+    def clauses_with(self, literals: list[int]) -> Iterator[tuple[int, int, bytes]]:
         """The clauses that have one of these literals, in file order: number, line, and the text of the literals."""
+        text = self.listed
+        if not text or any(abs(literal) < LONG for literal in literals):
+            yield from self.blocks_with(literals)
+            return
+        for before, clause in clauses_with(text, self.words.start, literals):
+            yield 1 + before, self.words.line + before, clause
+
+    def blocks_with(self, literals: list[int]) -> Iterator[tuple[int, int, bytes]]:
+        """The same, by blocks."""
         wanted = [b" %d " % literal for literal in literals]
         for number, line, block in self.blocks():
             text, lines, counted, passed = (b" " + block).translate(BLANKS), set(), 0, 0
@@ -170,11 +199,11 @@ class Formula:
         """The clauses in file order, some at a time: number and line of the first, and their text, each on a line that ends with ` 0`."""
         words, number = self.words.again(), 1
         while True:
+            before = words.line
             block = words.block(are_clauses)
             if block:
-                count = block.count(b"\n")
-                yield number, words.line - count + 1, block
-                number += count
+                yield number, before + 1, block
+                number += words.line - before
                 continue
             word = words.next()
             if word is None and number > self.count:

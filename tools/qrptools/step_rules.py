@@ -170,22 +170,25 @@ def nearest_of(formula: Formula, side: Side, literals: Set[int], texts: Iterable
     return nearest[1] if nearest else None
 
 
+SMALL = 1 << 16  # bytes of clauses in which literals are counted
+
+
 def rarest(formula: Formula, literals: Set[int]) -> list[int]:
     """These literals by how often the first clauses have them."""
     _, _, block = next(formula.blocks(), (1, 1, b""))
-    counts = Counter(block.split())
+    counts = Counter(block[:SMALL].split())
     return sorted(literals, key=lambda literal: (counts[b"%d" % literal], literal))
 
 
 def missed_clauses(formula: Formula, literals: Set[int]) -> Iterator[Clause]:
     """The clauses that have no variable with both signs, and share no literal with these."""
     words = {b"%d" % literal for literal in literals}
-    for number, line, texts in formula.pieces():
+    for number, line, texts in formula.texts():
         for place, text in enumerate(texts):
             first = text.split(b" ", FEW)  # and the rest of a long clause, most of which share one of the first
             if words.isdisjoint(first) and words.isdisjoint(first[-1].split()):
                 clause = clause_of(number + place, line + place, text)
-                if clause.clean:
+                if clause.clean and clause.literals.isdisjoint(literals):
                     yield clause
 
 

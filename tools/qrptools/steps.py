@@ -34,9 +34,9 @@ class Found(NamedTuple):
     later: dict[int, int]
 
 
-def are_steps(block: bytes) -> bool:
+def are_steps(block: bytes, lines: int) -> bool:
     """Whether each line of a block is a step, with single blanks and without leading zeros."""
-    return are_whole(block, COMMENT_BYTES, 1)
+    return are_whole(block, lines, COMMENT_BYTES, 1)
 
 
 def words_of(block: bytes) -> list[bytes]:
@@ -133,9 +133,10 @@ class Trace:
         words = self.words.again()
         seen: dict[int, int] = {}
         while words.line < last or words.taken < len(words.words):
+            before = words.line
             block = words.block(are_steps)
             if block:
-                yield words.line - block.count(b"\n") + 1, block
+                yield before + 1, block
                 continue
             word, line = words.next(), words.line
             if line > last:

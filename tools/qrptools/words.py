@@ -63,12 +63,12 @@ def value(word: Optional[bytes]) -> Union[int, bytes, None]:
     return -magnitude or word  # a minus before zero is no number
 
 
-def are_whole(block: bytes, comment_bytes: bytes, zeros: int) -> bool:
-    """Whether each line of a block that is known to be right has so many zeros and one at its end; with single blanks and zeros."""
-    lines, words = block.count(b"\n"), (b"\n" + block).translate(BLANKS, b"-")
-    if (block.count(b" 0\n"), words.count(b" 0")) != (lines, (zeros + 1) * lines):
+def are_whole(block: bytes, lines: int, comment_bytes: bytes, zeros: int) -> bool:
+    """Whether each of so many lines of a block that is known to be right has so many zeros and one at its end; with single blanks and zeros."""
+    if block.count(b" 0\n") != lines or any(byte in block for byte in comment_bytes + b"\t\rr"):  # r begins the result
         return False
-    if b"  " in words or any(byte in block for byte in comment_bytes + b"\t\rr"):  # r begins the result
+    words = (b"\n" + block).translate(BLANKS, b"-")
+    if words.count(b" 0") != (zeros + 1) * lines or b"  " in words:
         return False
     # The first of the two zeros of a step is in the line of the second one.
     return zeros == 0 or (block.count(b" 0 ") == lines and b"\n" not in b"".join(block.split(b" 0")[1::2]))
@@ -88,7 +88,7 @@ def pieces(data: Data, start: int, end: int) -> Iterator[tuple[int, bytes]]:
         yield place, data[place : min(place + BLOCK, end)]
 
 
-BlockTest = Callable[[bytes], bool]  # whether the lines of a block are right
+BlockTest = Callable[[bytes, int], bool]  # whether the lines of a block are right, of which there are so many
 
 
 class Words:
@@ -101,12 +101,15 @@ class Words:
         self.line, self.start, self.text = 0, 0, b""  # the line that is read, where it starts, and its text
         self.words: list[bytes] = []  # of the line
         self.taken = 0  # how many of them are taken
-        self.right_blocks: set[tuple[BlockTest, int]] = set()  # where the blocks start of which the test says so
+        self.right_blocks: dict[tuple[BlockTest, int], int] = {}  # where blocks start of which the test says so: how many lines each has
         self.word_by_word = 0  # up to here the text is read word by word
 
     def again(self) -> "Words":
-        """The same words once more, from here on."""
-        return copy.copy(self)
+        """The same words once more, from here on: from the line before, if no word of this one is taken, so that it begins a block."""
+        words = copy.copy(self)
+        if self.words and not self.taken:
+            words.line, words.start, words.text, words.words = self.line - 1, self.start - 1, b"\n", []
+        return words
 
     def next_line(self) -> bytes:
         """Goes to the next line and returns its text, which is empty at the end."""
@@ -127,14 +130,15 @@ class Words:
             return b""
         end = self.data.rfind(b"\n", start, start + BLOCK) + 1 or self.data.find(b"\n", start + BLOCK) + 1
         block = self.data[start:end]
-        count = block.count(b"\n")
-        if self.line + count > self.good:
+        known = self.right_blocks.get((are_right, start))
+        lines = count = block.count(b"\n") if known is None else known
+        if self.line + lines > self.good:
             count = int(self.good) - self.line
             block = b"".join(line + b"\n" for line in block.split(b"\n")[:count])
-        if not block or (are_right, start) not in self.right_blocks and not are_right(block):
+        if not block or known is None and not are_right(block, count):
             self.word_by_word = end
             return b""
-        self.right_blocks.add((are_right, start))
+        self.right_blocks[are_right, start] = lines
         self.line += count
         self.text = block[block.rfind(b"\n", 0, -1) + 1 :]
         self.start = start + len(block) - len(self.text)

@@ -40,16 +40,19 @@ def table(formula: Formula, columns: Columns, notes: dict[int, str], names: Opti
     if not literals:
         return
     known = names if names and names.names else None
-    rows = [("literal", *(["name"] if known else []), "quantifier", "block", *(name for name, _ in columns), "")]
     places = formula.places_of(literals)
-    for literal in sorted(literals, key=lambda l: (places[l].block, abs(l), -l)):
-        name = [name_of(literal, known)] if known else []
-        quantifier, block, _ = places[literal]
-        held = ["yes" if literal in held else "-" for _, held in columns]
-        rows.append((str(literal), *name, quantifier or "unbound", str(block or "-"), *held, notes.get(literal, "")))
-    widths = [max(map(len, column)) for column in zip(*rows)]
-    line = "  " + "  ".join(f"%{'' if title in TO_THE_RIGHT else '-'}{width}s" for title, width in zip(rows[0], widths))
-    for row in rows:
+    ordered = sorted(literals, key=lambda l: (places[l].block, abs(l), -l))
+    texts = [
+        ["literal", *map(str, ordered)],
+        *([["name", *(name_of(literal, known) for literal in ordered)]] if known else []),
+        ["quantifier", *(places[literal].quantifier or "unbound" for literal in ordered)],
+        ["block", *(str(places[literal].block or "-") for literal in ordered)],
+        *([name, *("yes" if literal in held else "-" for literal in ordered)] for name, held in columns),
+        ["", *(notes.get(literal, "") for literal in ordered)],
+    ]
+    widths = [max(map(len, column)) for column in texts]
+    line = "  " + "  ".join(f"%{'' if column[0] in TO_THE_RIGHT else '-'}{width}s" for column, width in zip(texts, widths))
+    for row in zip(*texts):
         yield (line % row).rstrip()
     yield ""
 
