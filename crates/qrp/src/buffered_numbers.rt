@@ -350,7 +350,8 @@ pub type Reached = (State, Result<usize, AllocError>);
 ///
 /// # Errors
 /// Out of memory.
-#[inline(always)]
+#[cold]
+#[inline(never)]
 fn keep_part<A: AntecedentLists>(
     here: State,
     parts: &mut Parts<A>,
@@ -421,7 +422,7 @@ fn surely_more(values: Values, from: usize) -> bool
 ///
 /// # Errors
 /// Out of memory.
-#[inline(never)]
+#[inline(always)]
 fn keep_steps<A: AntecedentLists>(
     parts: &mut Parts<A>,
     values: Values,
@@ -481,6 +482,37 @@ fn take_unfinished<A: AntecedentLists>(
     }
 }
 
+/// Takes steps from a place on where none has begun, as far as their numbers are buffered, and keeps
+/// each that is complete. The place of the next number and the number of the next zero go in.
+/// Returns where the next token stands, and the place of the next number.
+///
+/// # Errors
+/// Out of memory.
+#[inline(always)]
+fn take_next_steps<A: AntecedentLists>(
+    parts: &mut Parts<A>,
+    values: Values,
+    zeros: Zeros,
+    start: (usize, usize),
+) -> Reached
+    requires here { (start.0 ≤ length (numbers_of values)) × IsFlat (kept_of A.lists parts.old) }
+    ensures leads { IfOk result.1 (λ to. LeadsOver trace_row
+        (trace_at A.lists parts.old at.Between) (trace_at A.lists parts.new result.0)
+        (numbers_of values.entry) start.0 to) }
+    ensures within { IfOk result.1 (λ to. to ≤ length (numbers_of values.entry)) }
+    ensures sound { AreSound A.lists result.0 parts.new }
+{
+    let (from, zero) = match keep_steps(parts, values, zeros, start) {
+        Ok(kept) => kept,
+        Err(refused) => return (State::Between, Err(refused)),
+    };
+    if !surely_more(values, from) {
+        return (State::Between, Ok(from));
+    }
+    let next = NextPlaces::new(from, zeros, zero);
+    keep_part(State::Between, parts, values, next)
+}
+
 /// Takes steps as far as their numbers are buffered, and keeps each that is complete. Returns where
 /// the next token stands, and how many numbers were taken.
 ///
@@ -501,13 +533,7 @@ pub fn take_steps<A: AntecedentLists>(
 {
     match take_unfinished(here, parts, values, zeros) {
         (State::Between, Ok(from)) => {
-            match keep_steps(parts, values, zeros, (from, zeros_left(here))) {
-                Ok((from, zero)) => {
-                    let next = NextPlaces::new(from, zeros, zero);
-                    keep_part(State::Between, parts, values, next)
-                }
-                Err(refused) => (State::Between, Err(refused)),
-            }
+            take_next_steps(parts, values, zeros, (from, zeros_left(here)))
         }
         (state, reached) => (state, reached),
     }
