@@ -390,7 +390,7 @@ impl Scanner {
         let is_passed = self.is_open() && self.place.skip_comment_line();
         let numbers = &mut self.numbers;
         if is_passed {
-            numbers.forget();
+            numbers.pass_comment();
         }
         is_passed
     }

@@ -350,9 +350,8 @@ pub type Reached = (State, Result<usize, AllocError>);
 ///
 /// # Errors
 /// Out of memory.
-#[cold]
-#[inline(never)]
-fn keep_part<A: AntecedentLists>(
+#[inline(always)]
+pub fn keep_part<A: AntecedentLists>(
     here: State,
     parts: &mut Parts<A>,
     values: Values,
@@ -411,7 +410,7 @@ fn keep_whole<A: AntecedentLists>(
 /// Whether a number stands at the place, so that a step may be taken whole. One that is not is taken
 /// number by number.
 #[inline(always)]
-fn surely_more(values: Values, from: usize) -> bool
+pub fn surely_more(values: Values, from: usize) -> bool
     ensures { IsTrue result → from < length (numbers_of values.entry) }
 {
     from < values.len()
@@ -423,7 +422,7 @@ fn surely_more(values: Values, from: usize) -> bool
 /// # Errors
 /// Out of memory.
 #[inline(always)]
-fn keep_steps<A: AntecedentLists>(
+pub fn keep_steps<A: AntecedentLists>(
     parts: &mut Parts<A>,
     values: Values,
     zeros: Zeros,
@@ -449,92 +448,10 @@ fn keep_steps<A: AntecedentLists>(
 
 /// How many zeros are left of an unfinished part.
 #[inline(always)]
-fn zeros_left(here: State) -> usize {
+pub fn zeros_left(here: State) -> usize {
     match here {
         State::InLits(_) => 2,
         State::InAnts(_) | State::InSet(_) => 1,
         _ => 0,
-    }
-}
-
-/// Takes the rest of an unfinished part, if there is one.
-///
-/// # Errors
-/// Out of memory.
-#[inline(always)]
-#[tactic(auto, using(crate::proofs::BufferedNumbers::numbers_lead_on))]
-fn take_unfinished<A: AntecedentLists>(
-    here: State,
-    parts: &mut Parts<A>,
-    values: Values,
-    zeros: Zeros,
-) -> Reached
-    requires sound { AreSound A.lists here parts.old }
-    ensures leads { IfOk result.1 (λ to. LeadsOver trace_row (trace_at A.lists parts.old here)
-        (trace_at A.lists parts.new result.0) (numbers_of values.entry) 0 to) }
-    ensures within { IfOk result.1 (λ to. to ≤ length (numbers_of values.entry)) }
-    ensures sound { AreSound A.lists result.0 parts.new }
-{
-    let next = NextPlaces::new(0, zeros, 0);
-    match here {
-        State::Between => (here, Ok(0)),
-        _ => keep_part(here, parts, values, next),
-    }
-}
-
-/// Takes steps from a place on where none has begun, as far as their numbers are buffered, and keeps
-/// each that is complete. The place of the next number and the number of the next zero go in.
-/// Returns where the next token stands, and the place of the next number.
-///
-/// # Errors
-/// Out of memory.
-#[inline(always)]
-fn take_next_steps<A: AntecedentLists>(
-    parts: &mut Parts<A>,
-    values: Values,
-    zeros: Zeros,
-    start: (usize, usize),
-) -> Reached
-    requires here { (start.0 ≤ length (numbers_of values)) × IsFlat (kept_of A.lists parts.old) }
-    ensures leads { IfOk result.1 (λ to. LeadsOver trace_row
-        (trace_at A.lists parts.old at.Between) (trace_at A.lists parts.new result.0)
-        (numbers_of values.entry) start.0 to) }
-    ensures within { IfOk result.1 (λ to. to ≤ length (numbers_of values.entry)) }
-    ensures sound { AreSound A.lists result.0 parts.new }
-{
-    let (from, zero) = match keep_steps(parts, values, zeros, start) {
-        Ok(kept) => kept,
-        Err(refused) => return (State::Between, Err(refused)),
-    };
-    if !surely_more(values, from) {
-        return (State::Between, Ok(from));
-    }
-    let next = NextPlaces::new(from, zeros, zero);
-    keep_part(State::Between, parts, values, next)
-}
-
-/// Takes steps as far as their numbers are buffered, and keeps each that is complete. Returns where
-/// the next token stands, and how many numbers were taken.
-///
-/// # Errors
-/// Out of memory.
-#[inline(always)]
-pub fn take_steps<A: AntecedentLists>(
-    here: State,
-    parts: &mut Parts<A>,
-    values: Values,
-    zeros: Zeros,
-) -> Reached
-    requires sound { AreSound A.lists here parts.old }
-    ensures leads { IfOk result.1 (λ to. LeadsOver trace_row (trace_at A.lists parts.old here)
-        (trace_at A.lists parts.new result.0) (numbers_of values.entry) 0 to) }
-    ensures within { IfOk result.1 (λ to. to ≤ length (numbers_of values.entry)) }
-    ensures sound { AreSound A.lists result.0 parts.new }
-{
-    match take_unfinished(here, parts, values, zeros) {
-        (State::Between, Ok(from)) => {
-            take_next_steps(parts, values, zeros, (from, zeros_left(here)))
-        }
-        (state, reached) => (state, reached),
     }
 }

@@ -7,7 +7,7 @@ ghost use Rattle.qrp.specs.Returns.{ReadsTrace};
 ghost use Rattle.qrp.specs.WholeTrace.{made_of, nothing_read, trace_row, trace_with, HasResult};
 ghost use Rattle.window_numbers.specs.Values.{numbers_of};
 
-use crate::buffered_numbers::take_steps;
+use crate::buffered_numbers::{NextPlaces, keep_part, keep_steps, surely_more, zeros_left};
 use crate::fault::{TraceFault, trace_fault};
 use crate::parts::{Parts, close};
 use crate::states::{Part, State, take_at};
@@ -50,6 +50,41 @@ impl<A: AntecedentLists> TraceGrammar<A> {
         }
     }
 
+    /// Takes a part that begins here or has begun, as far as its numbers are buffered, and keeps it
+    /// if it is complete. Returns the place of the next number.
+    ///
+    /// # Errors
+    /// Out of memory.
+    #[cold]
+    #[inline(never)]
+    fn take_part(&mut self, values: Values, next: NextPlaces) -> Result<usize, AllocError>
+        requires { next.from ≤ length (numbers_of values) }
+        ensures leads { IfOk result (λ to. LeadsOver trace_row self.old self.new
+            (numbers_of values.entry) next.from to) }
+        ensures within { IfOk result (λ to. to ≤ length (numbers_of values.entry)) }
+    {
+        let (state, reached) = keep_part(self.state, &mut self.parts, values, next);
+        self.state = state;
+        reached
+    }
+
+    /// Takes the rest of an unfinished part, if there is one. Returns the place of the next number.
+    ///
+    /// # Errors
+    /// Out of memory.
+    #[inline(always)]
+    #[tactic(auto, using(crate::proofs::BufferedNumbers::numbers_lead_on))]
+    fn take_unfinished(&mut self, values: Values, zeros: Zeros) -> Result<usize, AllocError>
+        ensures leads { IfOk result
+            (λ to. LeadsOver trace_row self.old self.new (numbers_of values.entry) 0 to) }
+        ensures within { IfOk result (λ to. to ≤ length (numbers_of values.entry)) }
+    {
+        match self.state {
+            State::Between => Ok(0),
+            _ => self.take_part(values, NextPlaces::new(0, zeros, 0)),
+        }
+    }
+
     /// Goes over the buffered numbers as far as they are taken, and returns how many these are.
     ///
     /// # Errors
@@ -60,11 +95,16 @@ impl<A: AntecedentLists> TraceGrammar<A> {
             (λ to. LeadsOver trace_row self.old self.new (numbers_of values.entry) 0 to) }
         ensures within { IfOk result (λ to. to ≤ length (numbers_of values.entry)) }
     {
-        // The state stays where it is: one that is returned would be copied with its padding, by
-        // loads that wait for the stores before them.
-        let (state, reached) = take_steps(self.state, &mut self.parts, values, zeros);
-        self.state = state;
-        reached
+        let zero = zeros_left(self.state);
+        let first = self.take_unfinished(values, zeros)?;
+        let State::Between = self.state else {
+            return Ok(first);
+        };
+        let (from, zero) = keep_steps(&mut self.parts, values, zeros, (first, zero))?;
+        if !surely_more(values, from) {
+            return Ok(from);
+        }
+        self.take_part(values, NextPlaces::new(from, zeros, zero))
     }
 
     /// The parts that were kept, and the result. It takes no memory.

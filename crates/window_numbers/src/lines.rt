@@ -1,7 +1,7 @@
 //! Line ends among bytes.
 
-ghost use Rattle.std.specs.Prelude.{◌≡◌, ◌≤◌, length, take, count_by};
-ghost use Rattle.std.specs.Int.RustNames.{count_ones};
+ghost use Rattle.std.specs.Prelude.{◌≡◌, ◌≤◌, ◌<◌, length, map, take, count_by};
+ghost use Rattle.std.specs.Simd.Lanes.{mask_l};
 ghost use Rattle.qbf_tokens.specs.Left.{IsWithinLine};
 ghost use Rattle.qbf_tokens.specs.Tokens.{is_line_end};
 ghost use Rattle.window_numbers.specs.declared.lines.TheConstants.{BLOCK};
@@ -16,7 +16,7 @@ const BLOCK: usize = 16;
 #[tactic(auto, using(crate::proofs::LineEnds::marks_are))]
 fn marks_of(block: &[u8]) -> u64
     requires { BLOCK ≤ length block.now }
-    ensures { count_ones result ≡ count_by is_line_end (take BLOCK block.now) }
+    ensures { result ≡ mask_l (map is_line_end (take BLOCK block.now)) }
 {
     u8x16::from_slice(block)
         .simd_eq(u8x16::splat(b'\n'))
@@ -47,17 +47,32 @@ fn count_by_byte(bytes: &[u8]) -> usize
     count
 }
 
-/// How many line ends there are.
+/// How many line ends there are among so many of the first bytes, fewer than 16.
+#[inline(always)]
+fn count_few(bytes: &[u8], len: usize) -> usize
+    requires few { len < BLOCK }
+    requires within { len ≤ length bytes.now }
+    ensures { result ≡ count_by is_line_end (take len bytes.now) }
+{
+    if bytes.len() < BLOCK {
+        return count_by_byte(&bytes[..len]);
+    }
+    let marks = marks_of(bytes) % (1 << len);
+    marks.count_ones() as usize
+}
+
+/// How many line ends there are among so many of the first bytes.
 #[inline(never)]
-pub fn count_line_ends(bytes: &[u8]) -> u64
-    ensures { result ≡ count_by is_line_end bytes.now }
+pub fn count_line_ends(bytes: &[u8], len: usize) -> u64
+    requires { len ≤ length bytes.now }
+    ensures { result ≡ count_by is_line_end (take len bytes.now) }
 {
     let mut count = 0;
     let mut i = 0;
-    while bytes.len() - i >= BLOCK {
+    while len - i >= BLOCK {
         count += count_in_block(&bytes[i..]);
         i += BLOCK;
     }
-    let rest = count_by_byte(&bytes[i..]);
+    let rest = count_few(&bytes[i..], len - i);
     (count + rest) as u64
 }

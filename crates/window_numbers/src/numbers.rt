@@ -44,6 +44,36 @@ fn marks_of(block: &[u8]) -> u64
         .to_bitmask()
 }
 
+/// How many bytes are looked at together to find a comment.
+const FEW_BYTES: usize = 32;
+
+/// A bit for each of the first 32 bytes, the lowest for the first: whether it is `c` or `#`, with
+/// which comments begin.
+#[inline(always)]
+fn comments_of(block: &[u8]) -> u64
+    requires { FEW_BYTES ≤ length block.now }
+{
+    let lower = u8x32::from_slice(block) | u8x32::splat(b'c' ^ b'#');
+    lower.simd_eq(u8x32::splat(b'c')).to_bitmask()
+}
+
+/// The place from which on the next comment stands, as it seems, or that of the end.
+#[inline(always)]
+fn next_comment(bytes: &[u8], from: usize) -> usize
+    requires { from ≤ length bytes.now }
+    ensures { result ≤ length bytes.now }
+{
+    let mut at = from;
+    while bytes.len() - at >= FEW_BYTES {
+        let comments = comments_of(&bytes[at..]);
+        if comments != 0 {
+            return bytes.len().min(at + comments.trailing_zeros() as usize);
+        }
+        at += FEW_BYTES;
+    }
+    bytes.len()
+}
+
 /// The number with this sign and magnitude.
 #[inline(always)]
 pub fn signed(negative: bool, magnitude: u64) -> i32
@@ -150,6 +180,9 @@ pub struct Numbers {
     pub alone: u32,
     /// Whether a separator was found after another: then they are looked for.
     pub is_spaced: bool,
+    /// Whether a comment line was passed since the ends were looked for: then the next one is looked
+    /// for before numbers are read.
+    pub is_commented: bool,
 }
 
 impl Numbers {
@@ -170,6 +203,7 @@ impl Numbers {
             zero_count: 0,
             alone: 0,
             is_spaced: false,
+            is_commented: false,
         }
     }
 
@@ -181,6 +215,16 @@ impl Numbers {
     {
         self.known = 0;
         self.alone = self.alone.saturating_sub(1);
+    }
+
+    /// No numbers are known any more, and a comment line was passed.
+    #[inline(always)]
+    #[tactic(auto, using(crate::proofs::HeldNumbers::none_stand))]
+    pub fn pass_comment(&mut self)
+        ensures { (bytes : List ℕ) → StandInFront self.new bytes }
+    {
+        self.is_commented = true;
+        self.forget();
     }
 
     /// No numbers are known any more, and a word was read: most sets have few variables, so the next
@@ -275,25 +319,60 @@ impl Numbers {
         };
         self.first = 0;
         self.runs = runs;
+        self.is_commented = false;
         self.forget();
     }
 
-    /// Goes to the first run that seems to end after the place `start` of the window. Returns the
-    /// end of those whose place seems to be known.
+    /// The first number from the number `first` on that seems to end after a place of the window, if
+    /// it comes before the number `runs`, and else `runs`.
     #[inline(always)]
-    fn seek(&mut self, start: usize) -> usize
-        requires { start ≤ ROOM }
+    fn ending_after(&self, place: usize, first: usize, runs: usize) -> usize
+        requires place { place ≤ ROOM }
+        requires room { (first ≤ runs) × (runs ≤ MOST) }
+        ensures { (first ≤ result) × (result ≤ runs) }
+    {
+        let mut next = first;
+        while next < runs {
+            let places = u16x8::from_slice(&self.places[next + 1..]);
+            let passed = places.simd_le(u16x8::splat(place as u16)).to_bitmask();
+            if passed != 255 {
+                return runs.min(next + passed.count_ones() as usize);
+            }
+            next += 8;
+        }
+        runs
+    }
+
+    /// The first number that seems to end after the next comment begins, if it comes before the
+    /// number `runs`, and else `runs`.
+    #[inline(always)]
+    fn end_before_comment(&self, bytes: &[u8], start: usize, runs: usize) -> usize
+        requires start { start ≤ length bytes.now }
+        requires small { length bytes.now ≤ ROOM }
+        requires room { (self.now.first ≤ runs) × (runs ≤ MOST) }
+        ensures { (self.now.first ≤ result) × (result ≤ runs) }
+    {
+        self.ending_after(next_comment(bytes, start), self.first, runs)
+    }
+
+    /// Goes to the first run that seems to end after the place `start` of the window. Returns the
+    /// end of those whose place seems to be known, or of those before the next comment if one was
+    /// passed before.
+    #[inline(never)]
+    fn seek(&mut self, bytes: &[u8], start: usize) -> usize
+        requires start { start ≤ length bytes.now }
+        requires small { length bytes.now ≤ ROOM }
         ensures front { place self.new self.new.first ≡ start }
         ensures within { (self.new.first ≤ result) × (result ≤ MOST) }
         ensures values { length self.new.values ≡ MOST }
     {
         let runs = self.runs.min(MOST);
-        let mut first = self.first.min(runs);
-        while first < runs && self.places[first + 1] as usize <= start {
-            first += 1;
-        }
+        let first = self.ending_after(start, self.first.min(runs), runs);
         self.places[first] = start as u16;
         self.first = first;
+        if self.is_commented {
+            return self.end_before_comment(bytes, start, runs);
+        }
         runs
     }
 
@@ -349,6 +428,16 @@ impl Numbers {
         let places = four_of(&PLACES, marks) + u16x4::splat(k as u16);
         places.copy_to_slice(&mut self.zeros[zeros % MOST..]);
         zeros.wrapping_add(marks.count_ones() as usize)
+    }
+
+    /// Notes whether the number `k` is zero, after so many zeros. Returns how many are noted.
+    #[inline(always)]
+    fn note_zero(&mut self, k: usize, is_zero: bool, zeros: usize) -> usize
+        requires { k ≤ MOST }
+        ensures same { self.new ≡ record self.old { zeros = self.new.zeros } }
+    {
+        self.zeros[zeros % MOST] = k as u16;
+        zeros.wrapping_add(usize::from(is_zero))
     }
 
     /// The place of the separator after the number `k`, as it seems.
@@ -537,7 +626,7 @@ impl Numbers {
                 return (k, zeros);
             };
             self.put(k, value);
-            zeros = self.note_zeros(k, u64::from(value == 0), zeros);
+            zeros = self.note_zero(k, value == 0, zeros);
             k += 1;
         }
         (k, zeros)
@@ -567,6 +656,9 @@ impl Numbers {
         ensures fills { FillsTo self.new bytes.now (place self.old self.old.first) runs result.0 }
         ensures further { k ≤ result.0 }
     {
+        if k + 4 > runs {
+            return self.put_ones(bytes, k, runs, zeros);
+        }
         let wide = self.wide_marks(k);
         if wide == 0 {
             return self.put_ones(bytes, k, runs, zeros);
@@ -666,7 +758,7 @@ impl Numbers {
         requires small { length bytes.now ≤ ROOM }
         ensures { AreHeld self.new bytes.now start }
     {
-        let runs = self.seek(start);
+        let runs = self.seek(bytes, start);
         let (known, zeros) = self.put_usual(bytes, start, runs);
         self.known = known;
         self.zero = 0;
@@ -729,7 +821,7 @@ impl Numbers {
         let len = usize::from(self.places[self.first + count] - self.places[self.first]);
         Cursor {
             at: len,
-            line: from.line.saturating_add(count_line_ends(&bytes[..len])),
+            line: from.line.saturating_add(count_line_ends(bytes, len)),
             tokens: u64::from(bytes[len - 1] != b'\n'),
         }
     }

@@ -22,6 +22,6 @@ pub returns : goal.returns
 returns c =
     let bytes = c.args.bytes.now in
     let i = c.loop-i.i in
-    ap (λ n. n + c.count_by_byte-rest.result) c.loop-i.invariant.counted
-    ∙ ap (λ n. count_by is_line_end (take i bytes) + n) c.count_by_byte-rest.ensures
-    ∙ all_counted bytes i c.loop-i.invariant.within
+    ap (λ n. n + c.count_few-rest.result) c.loop-i.invariant.counted
+    ∙ ap (λ n. count_by is_line_end (take i bytes) + n) (rw (all_after i bytes) at c.count_few-rest.ensures)
+    ∙ all_counted bytes i c.args.len c.loop-i.invariant.within

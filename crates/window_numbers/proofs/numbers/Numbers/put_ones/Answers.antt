@@ -14,9 +14,9 @@ numbers-preserved c =
     let value = c.in-Some.value in
     let fits : SFits w32 value = search in
     record {
-      fills = fills_on n c.put.new.self c.note_zeros-zeros.new.self bytes (place c.args.self.now c.args.self.now.first) c.args.runs k 1 (value ∷ [])
+      fills = fills_on n c.put.new.self c.note_zero-zeros.new.self bytes (place c.args.self.now c.args.self.now.first) c.args.runs k 1 (value ∷ [])
           c.numbers.invariant.fills refl (omega arith) (omega (arith, c.in-Some.ensures.stands.0))
           (alone bytes n.places k value c.in-Some.ensures.stands.1) (rw (to_z-of_z w32 value fits) at c.put.ensures.put) c.put.ensures.same
-          c.note_zeros-zeros.ensures.same;
+          c.note_zero-zeros.ensures.same;
       further = omega (arith, c.numbers.invariant.further);
     }
