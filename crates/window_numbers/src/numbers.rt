@@ -57,21 +57,26 @@ fn comments_of(block: &[u8]) -> u64
     lower.simd_eq(u8x32::splat(b'c')).to_bitmask()
 }
 
-/// The place from which on the next comment stands, as it seems, or that of the end.
+/// How many bytes are looked at to find a comment: to look at more takes as long as is saved.
+const NEAR: usize = 128;
+
+/// The place where the next comment begins, as it seems, if it is near.
 #[inline(always)]
-fn next_comment(bytes: &[u8], from: usize) -> usize
-    requires { from ≤ length bytes.now }
-    ensures { result ≤ length bytes.now }
+fn next_comment(bytes: &[u8], from: usize) -> Option<usize>
+    requires from { from ≤ length bytes.now }
+    requires small { length bytes.now ≤ ROOM }
+    ensures { IfSome result (λ place. place ≤ length bytes.now) }
 {
+    let end = bytes.len().min(from + NEAR);
     let mut at = from;
-    while bytes.len() - at >= FEW_BYTES {
+    while end - at >= FEW_BYTES {
         let comments = comments_of(&bytes[at..]);
         if comments != 0 {
-            return bytes.len().min(at + comments.trailing_zeros() as usize);
+            return Some(bytes.len().min(at + comments.trailing_zeros() as usize));
         }
         at += FEW_BYTES;
     }
-    bytes.len()
+    None
 }
 
 /// The number with this sign and magnitude.
@@ -343,8 +348,8 @@ impl Numbers {
         runs
     }
 
-    /// The first number that seems to end after the next comment begins, if it comes before the
-    /// number `runs`, and else `runs`.
+    /// The first number that seems to end after the next comment begins, if one is near and the
+    /// number comes before the number `runs`, and else `runs`.
     #[inline(always)]
     fn end_before_comment(&self, bytes: &[u8], start: usize, runs: usize) -> usize
         requires start { start ≤ length bytes.now }
@@ -352,12 +357,15 @@ impl Numbers {
         requires room { (self.now.first ≤ runs) × (runs ≤ MOST) }
         ensures { (self.now.first ≤ result) × (result ≤ runs) }
     {
-        self.ending_after(next_comment(bytes, start), self.first, runs)
+        match next_comment(bytes, start) {
+            Some(comment) => self.ending_after(comment, self.first, runs),
+            None => runs,
+        }
     }
 
     /// Goes to the first run that seems to end after the place `start` of the window. Returns the
     /// end of those whose place seems to be known, or of those before the next comment if one was
-    /// passed before.
+    /// passed before and the next is near.
     #[inline(never)]
     fn seek(&mut self, bytes: &[u8], start: usize) -> usize
         requires start { start ≤ length bytes.now }

@@ -1,8 +1,8 @@
-use Rattle.qbf_tokens.proofs.Cited.{◌-◌, ◌≤◌, length}
+use Rattle.qbf_tokens.proofs.Cited.{◌-◌, ◌≤◌}
 use Rattle.window_numbers.proofs.numbers.next_comment.Given as goal
 
 abbrev pub invariant-loop-at : goal.invariant-loop-at
-invariant-loop-at l = record { within : l.at ≤ length l.bytes }
+invariant-loop-at l = record { within : l.at ≤ l.end }
 
 abbrev pub decreases-loop-at : goal.decreases-loop-at
-decreases-loop-at l = length l.bytes - l.at
+decreases-loop-at l = l.end - l.at
