@@ -8,8 +8,8 @@ from functools import cached_property
 from operator import neg
 from typing import NamedTuple, Optional
 
-from qrptools.listed import LONG, are_listed, clauses_with
-from qrptools.words import ALL, BLANKS, BLOCK, GREATEST, GREATEST_VARIABLE, Data, Fault, Words, are_whole, value
+from qrptools.listed import Listed
+from qrptools.words import ALL, BLANKS, GREATEST, GREATEST_VARIABLE, Data, Fault, Words, are_whole, value
 
 SET_BYTES = frozenset(b"ae")
 COMMENT_BYTES = b"c"
@@ -154,31 +154,30 @@ class Formula:
             yield number, line, block.split(b" 0\n")[:-1]
 
     @cached_property
-    def listed(self) -> bytes:
-        """The text, if it is in memory and known to be right, and each line after the prefix is one clause; else nothing."""
+    def listed(self) -> Optional[Listed]:
+        """The clauses by their lines, if the text is in memory and known to be right, and each line after the prefix is one of them."""
         words, data = self.words, self.data
-        begins = bool(words.words) and not words.taken and words.good == ALL
-        return data if begins and isinstance(data, bytes) and are_listed(data, words.start, self.count) else b""
+        if not words.words or words.taken or words.good < ALL or not isinstance(data, bytes):
+            return None
+        found = Listed(data, words.start, self.count)
+        return found if found.are_right() else None
 
     def texts(self) -> Iterator[tuple[int, int, list[bytes]]]:
         """As `pieces`, but the numbers may have zeros before them, and several blanks between them."""
-        text, number, start = self.listed, 1, self.words.start
-        if not text:
+        if not self.listed:
             yield from self.pieces()
-        while text and number <= self.count:
-            end = text.rfind(b"\n", start, start + BLOCK) + 1 or text.find(b"\n", start + BLOCK) + 1
-            some = text[start:end].split(b" 0\n")[:-1]
-            yield number, self.words.line + number - 1, some
-            number, start = number + len(some), end
+            return
+        before = 0
+        for some in self.listed.pieces():
+            yield 1 + before, self.words.line + before, some
+            before += len(some)
 
     def clauses_with(self, literals: list[int]) -> Iterator[tuple[int, int, bytes]]:
         """The clauses that have one of these literals, in file order: number, line, and the text of the literals."""
-        text = self.listed
-        if not text or any(abs(literal) < LONG for literal in literals):
-            yield from self.blocks_with(literals)
-            return
-        for before, clause in clauses_with(text, self.words.start, literals):
-            yield 1 + before, self.words.line + before, clause
+        found = self.listed.clauses_with(literals) if self.listed else None
+        if found is None:
+            return self.blocks_with(literals)
+        return ((1 + before, self.words.line + before, clause) for before, clause in found)
 
     def blocks_with(self, literals: list[int]) -> Iterator[tuple[int, int, bytes]]:
         """The same, by blocks."""

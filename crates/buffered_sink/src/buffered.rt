@@ -14,7 +14,7 @@ use qbf_text::{Sink, SinkFault};
 use std::marker::Model;
 
 /// How many bytes are held back at most.
-const ROOM: usize = 32768;
+const ROOM: usize = 65536;
 
 /// How many digits a number has at most.
 const LONGEST: usize = 20;
@@ -35,7 +35,7 @@ impl Model for Buffer {
 
     ghost view = { λ h. take (h.end - h.start) (drop h.start h.bytes) };
 
-    ghost invariant = { λ h. (h.start ≤ h.end) × (h.end ≤ 32768) };
+    ghost invariant = { λ h. (h.start ≤ h.end) × (h.end ≤ 65536) };
 }
 
 impl Buffer {
