@@ -410,7 +410,7 @@ fn keep_whole<A: AntecedentLists>(
 /// Whether a number stands at the place, so that a step may be taken whole. One that is not is taken
 /// number by number.
 #[inline(always)]
-pub fn surely_more(values: Values, from: usize) -> bool
+fn surely_more(values: Values, from: usize) -> bool
     ensures { IsTrue result → from < length (numbers_of values.entry) }
 {
     from < values.len()

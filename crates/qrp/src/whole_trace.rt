@@ -7,7 +7,7 @@ ghost use Rattle.qrp.specs.Returns.{ReadsTrace};
 ghost use Rattle.qrp.specs.WholeTrace.{made_of, nothing_read, trace_row, trace_with, HasResult};
 ghost use Rattle.window_numbers.specs.Values.{numbers_of};
 
-use crate::buffered_numbers::{NextPlaces, keep_part, keep_steps, surely_more, zeros_left};
+use crate::buffered_numbers::{NextPlaces, keep_part, keep_steps, zeros_left};
 use crate::fault::{TraceFault, trace_fault};
 use crate::parts::{Parts, close};
 use crate::states::{Part, State, take_at};
@@ -101,7 +101,7 @@ impl<A: AntecedentLists> TraceGrammar<A> {
             return Ok(first);
         };
         let (from, zero) = keep_steps(&mut self.parts, values, zeros, (first, zero))?;
-        if !surely_more(values, from) {
+        if from >= values.len() {
             return Ok(from);
         }
         self.take_part(values, NextPlaces::new(from, zeros, zero))

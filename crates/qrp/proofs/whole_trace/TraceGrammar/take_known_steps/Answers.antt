@@ -4,8 +4,8 @@ use Rattle.qrp.specs.WholeTrace.{trace_row}
 use Rattle.qrp.proofs.KeptItems.{trace_in_turn}
 use Rattle.qrp.proofs.whole_trace.TraceGrammar.take_known_steps.Goals as goal
 
-pub returns-then-not-surely_more-clause-leads : goal.returns-then-not-surely_more-clause-leads
-returns-then-not-surely_more-clause-leads g c =
+pub returns-then-from-len-clause-leads : goal.returns-then-from-len-clause-leads
+returns-then-from-len-clause-leads g c =
     let xs = numbers_of c.args.values in
     rw c.in-Between.is (leads_further trace_row _ _ _ xs 0 c.in_ok-first.first c.in_ok-from.from
     (rw (← c.self-2.view_is, c.in-Between.is) at c.in_ok-first.ensures.leads) c.in_ok-from.ensures.leads)
