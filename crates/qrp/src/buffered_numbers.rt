@@ -421,7 +421,7 @@ fn surely_more(values: Values, from: usize) -> bool
 ///
 /// # Errors
 /// Out of memory.
-#[inline(always)]
+#[inline(never)]
 pub fn keep_steps<A: AntecedentLists>(
     parts: &mut Parts<A>,
     values: Values,
