@@ -124,5 +124,5 @@ SOLVED = {
     "adder9-lazy": Solved(lambda: adder(9), LAZY),
     "false": Solved(lambda: rand(29, "eae", 60, 900, 5), TRADITIONAL),
     "false-lazy": Solved(lambda: rand(29, "eae", 60, 900, 5), LAZY),
-    "true": Solved(lambda: rand(30, "aeae", 60, 600, 5), TRADITIONAL),
+    "true": Solved(lambda: rand(31, "aeae", 50, 500, 5), TRADITIONAL),
 }
