@@ -425,6 +425,27 @@ def try_long_traces():
     expect("many steps of long traces are found so, and some that name others that are missing", found > 40 and missing > 10, (found, missing))
 
 
+def try_lines_alike():
+    """So is one in the middle of steps of one literal, and none if each of these lines ends a step and begins the next one."""
+    lines = "".join(f"{number} {number % 900 + 1} 0 {number + 10000} {number % 800 + 1} 0\n" for number in range(1, 3001))
+    for name, begin, text, is_found in (
+        ("alone", "", lines, True),
+        ("after a minus", "20000 -4 0 0\n", lines, True),
+        ("after a minus that is cut", "20000 -4 0\n", f"{lines}0\n", False),
+        ("that are cut", "20000 4 0\n", f"{lines}0\n", False),
+        ("that are cut after a minus", "19999 -4 0 0\n20000 4 0\n", f"{lines}0\n", False),
+        ("after a zero that begins a line", "20000 4\n0 0\n", lines, False),
+        ("after zeros in a row", "20000 0 0 20001 0 0\n", lines, False),
+        ("with a tab", "20000 4\t0 0\n", lines, False),
+        ("with a number that begins with 0", "20000 04 0 0\n", lines, False),
+        ("after a set that is cut", "e 1 2\n0 20000 4 0 0\n", lines, False),
+    ):
+        for number in 5, 1500, 2999, 11500:
+            (near, result), (again, wanted) = near_and_read(f"p qrp 9 9\n{begin}{text}r sat\n", number)
+            is_left = near is None and not (is_found and number <= 3000)
+            expect(f"lines alike {name}: step {number}", is_left or (near, result) == (again, wanted), (near, result, again, wanted))
+
+
 def try_odd_steps():
     """Lines that look like the step that is looked for, and are not it."""
     for name, text, number in (
@@ -496,12 +517,13 @@ def main():
     try_nearest()
     try_places()
     try_long_traces()
+    try_lines_alike()
     try_odd_steps()
     try_drawings(program)
     try_marks(program)
     try_blanks(program)
     try_words(program)
-    return finish(12252)
+    return finish(12292)
 
 
 if __name__ == "__main__":

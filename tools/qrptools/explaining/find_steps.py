@@ -2,8 +2,9 @@
 
 In such a trace a line that begins with a number may be a step, or the rest of one that began in a line before. Which of these it is can
 be seen from the lines just before it: whatever state a reader is in, after a line with two lists of which the first cannot be one of
-antecedents, because it has a minus or more than two numbers, it is between two steps. If no such line is near, or the trace has
-comments, nothing is found here, and the steps are read from the beginning.
+antecedents, because it has a minus or more than two numbers, it is between two steps. If no such line is near, the zeros are counted from the
+last line with a minus on, or from the first step: there are two of each step. If they are hard to count, or the trace has comments, nothing
+is found here, and the steps are read from the beginning.
 
 Where a step is looked for first is guessed by the numbers that lines begin with, as if they went up. Of a number that is not found, its
 digits are looked for: if each place where they stand is in the line of another step, there is no step with it.
@@ -14,13 +15,14 @@ from collections.abc import Iterator
 from typing import Optional
 
 from qrptools.steps import Found, Step, Trace
-from qrptools.words import pieces
+from qrptools.words import BLOCK, pieces
 
 NEAR = 1000  # lines that are looked at before a step
 SMALL = 1 << 16  # bytes that are looked through, once the place of a step is guessed
 MANY = 100  # places that are looked at for a step, if it is not where it is guessed
 MISSING = 0  # as the place of a step: there is none
 NUMBER = re.compile(rb"[0-9]{1,20}")
+ODD_ZEROS = (b"\n0", b"\t", b"\r")  # what makes the zeros of some lines hard to count
 WHOLE_STEP = re.compile(rb"[1-9][0-9]*(?: -?[1-9][0-9]*)* 0(?: [1-9][0-9]*){0,2} 0")
 
 
@@ -31,6 +33,7 @@ class Finder:
         self.data = trace.data
         self.begin = trace.words.start  # of the line with the first step
         self.is_line_of_step = trace.words.taken == 0  # whether that line begins with it
+        self.starts = {self.begin} if self.is_line_of_step else set()  # of lines that are known to begin with a step
         self.end = len(self.data)
         self.result: Optional[list[bytes]] = None
         for place, piece in pieces(self.data, self.begin, self.end):
@@ -89,8 +92,39 @@ class Finder:
 
     def is_step(self, place: int) -> bool:
         """Whether it is sure that a step begins at this line, and ends in it."""
-        if not WHOLE_STEP.fullmatch(self.line_at(place)):
-            return False
+        return bool(WHOLE_STEP.fullmatch(self.line_at(place))) and (self.is_after_step(place) or self.is_after_zeros(place))
+
+    def is_after_zeros(self, place: int) -> bool:
+        """Whether it is sure by the zeros before this line that a step begins with it: they are even in number, and the last is just before."""
+        minus = self.data.rfind(b"-", self.begin, place)
+        after = self.data.find(b"\n", minus, place) + 1 if minus >= 0 else 0
+        if after and self.is_step_with_minus(self.data.rfind(b"\n", 0, minus) + 1):
+            self.starts.add(after)
+        start = max((start for start in self.starts if start <= place), default=place)
+        zeros = 0
+        for lines in self.lines(start, place):
+            count = lines.count(b" 0")
+            if count != lines.count(b" 0 ") + lines.count(b" 0\n") or lines[:1] == b"0" or any(part in lines for part in ODD_ZEROS):
+                return False
+            zeros += count
+        is_sure = start in self.starts and zeros % 2 == 0 and (start == place or self.data[place - 3 : place] == b" 0\n")
+        self.starts |= {place} if is_sure else set()
+        return is_sure
+
+    def is_step_with_minus(self, place: int) -> bool:
+        """Whether a line has two lists, and a minus in the first of them, so that it is a step."""
+        line = self.line_at(place)
+        return bool(WHOLE_STEP.fullmatch(line)) and b"-" in line[: line.index(b" 0 ")]
+
+    def lines(self, start: int, end: int) -> Iterator[bytes]:
+        """The lines from one place to another, some at a time."""
+        while start < end:
+            after = self.data.rfind(b"\n", start, min(start + BLOCK, end)) + 1 or self.data.find(b"\n", start, end) + 1 or end
+            yield self.data[start:after]
+            start = after
+
+    def is_after_step(self, place: int) -> bool:
+        """Whether it is sure by the lines just before this one that a step begins with it."""
         for _ in range(NEAR):
             if place == self.begin:
                 return self.is_line_of_step
