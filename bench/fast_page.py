@@ -232,7 +232,7 @@ Without all of them `main` reaches less: {plain_lines}.
 ## What keeps a check linear
 
 These are no fast ways, and belong to the plain program: without one of them the time of a check grows with the square of some size. Repetitions
-are seen only while a step is judged as it is written, so without that they take time again for each step that names them.
+and parts of long antecedents are used only while a step is judged as it is written, so without that these take time again for each step.
 
 {linear}
 
