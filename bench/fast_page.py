@@ -244,7 +244,7 @@ Instructions are those that `valgrind --tool=callgrind` counts, which other work
 of both programs by turns, which it does, and is left out below a hundredth of a second. The inputs are small, so that a start of the program counts in them too. Several fast ways may be out of
 use in one run, if none of them counts on the inputs of another. The command is `bench/without --store NAME ..`. The machine had {machine}.
 Each run is of the tree as it was then; the lines are those of the tree as it is.
-So compare instructions first: times of a machine that has so much else to do differ by a tenth and more.
+So compare instructions first: times of a machine with other work differ by a tenth and more.
 
 {inputs}
 

@@ -96,18 +96,21 @@ class Finder:
 
     def is_after_zeros(self, place: int) -> bool:
         """Whether it is sure by the zeros before this line that a step begins with it: they are even in number, and the last is just before."""
-        minus = self.data.rfind(b"-", self.begin, place)
+        start = max((start for start in self.starts if start <= place), default=self.begin)
+        minus = self.data.rfind(b"-", start, place)
         after = self.data.find(b"\n", minus, place) + 1 if minus >= 0 else 0
         if after and self.is_step_with_minus(self.data.rfind(b"\n", 0, minus) + 1):
-            self.starts.add(after)
-        start = max((start for start in self.starts if start <= place), default=place)
+            start = after
+            self.starts.add(start)
+        if start not in self.starts:
+            return False
         zeros = 0
         for lines in self.lines(start, place):
             count = lines.count(b" 0")
             if count != lines.count(b" 0 ") + lines.count(b" 0\n") or lines[:1] == b"0" or any(part in lines for part in ODD_ZEROS):
                 return False
             zeros += count
-        is_sure = start in self.starts and zeros % 2 == 0 and (start == place or self.data[place - 3 : place] == b" 0\n")
+        is_sure = zeros % 2 == 0 and (start == place or self.data[place - 3 : place] == b" 0\n")
         self.starts |= {place} if is_sure else set()
         return is_sure
 
