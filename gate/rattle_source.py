@@ -241,7 +241,8 @@ class Source:
         inside = self.file[len("src/") : -len(".rt")].split("/")
         here = [] if inside in (["lib"], ["main"]) else inside
         # The methods of a type stand, for the prover, in the module of the type.
-        imported = {name: module.split("::") for module, name in re.findall(r"(?m)^use crate::([a-z_:]+)::([A-Z]\w*);", self.plain)}
+        uses = re.findall(r"(?m)^use crate::([a-z_:]+)::\{?([\w,\s]+)\}?;", self.plain)
+        imported = {name: module.split("::") for module, names in uses for name in re.findall(r"\b[A-Z]\w*", names)}
         for function in self.functions:
             modules: list[str] = []
             owner, outer = "", function.within

@@ -64,11 +64,10 @@ def rounds(bodies: list[Body], reach: Graph) -> list[list[Body]]:
     groups: list[list[Body]] = []
     for body in sorted(bodies, key=lambda body: (len(body.functions) == 1, body.copy is not None, body.name)):
         fitting = (group for group in groups if has_room(group, body) and all(are_apart(body, other, reach) for other in group))
-        group = next(fitting, None)
-        if group is None:
-            groups.append([body])
-        else:
-            group.append(body)
+        group: list[Body] = next(fitting, [])
+        if not group:
+            groups.append(group)
+        group.append(body)
     return groups
 
 

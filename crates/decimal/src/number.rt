@@ -22,87 +22,7 @@ fn fits(value: u64, digit: u64) -> bool
     value < 1844674407370955161 || (value == 1844674407370955161 && digit <= 5)
 }
 
-/// The value of the first eight bytes, if all of them are digits.
-#[inline(always)]
-fn first_eight(bytes: &[u8]) -> Option<u64>
-    ensures within { IfSome result (λ _. 8 ≤ length bytes.now) }
-    ensures digits { IfSome result (λ _. AllDigits 10 (take 8 bytes.now)) }
-    ensures value { IfSome result (λ v. v ≡ digits_value 10 (take 8 bytes.now)) }
-    ensures small { IfSome result (λ v. v < 100000000) }
-{
-    let word = first_word(bytes)?;
-    let value = number_of_len(word, 8)?;
-    Some(value)
-}
-
-/// The value of the first sixteen bytes if all of them are digits, else of the first eight if these
-/// are, else 0. With it comes how many bytes it is the value of: 16, 8 or 0.
-#[inline(always)]
-fn leading_eights(bytes: &[u8]) -> (u64, usize)
-    ensures few { result.1 ≤ 16 }
-    ensures within { result.1 ≤ length bytes.now }
-    ensures digits { AllDigits 10 (take result.1 bytes.now) }
-    ensures value { result.0 ≡ digits_value 10 (take result.1 bytes.now) }
-{
-    let Some(first) = first_eight(bytes) else {
-        return (0, 0);
-    };
-    match first_eight(&bytes[8..]) {
-        Some(second) => (first * 100_000_000 + second, 16),
-        None => (first, 8),
-    }
-}
-
-/// The powers of ten, from 10^0 up to 10^7.
-const POWERS: [u64; 8] = [1, 10, 100, 1_000, 10_000, 100_000, 1_000_000, 10_000_000];
-
-/// Ten to the power of a number below 8.
-#[inline(always)]
-fn power_of_ten(exponent: usize) -> u64
-    requires { exponent < 8 }
-    ensures { result ≡ 10 ^ exponent }
-{
-    POWERS[exponent]
-}
-
-/// The value of the first digits with up to seven that follow them, if these end within eight
-/// bytes, and how many digits that is in all. `first` is the value and the number of the first
-/// digits.
-#[inline(always)]
-fn with_tail(bytes: &[u8], first: (u64, usize)) -> Option<(u64, usize)>
-    requires within { first.1 ≤ length bytes.now }
-    requires digits { AllDigits 10 (take first.1 bytes.now) }
-    requires value { first.0 ≡ digits_value 10 (take first.1 bytes.now) }
-    ensures { IfSome result (λ r. (r.1 ≤ MOST) × (r.1 ≤ length bytes.now)
-        × AllDigits 10 (take r.1 bytes.now) × (r.0 ≡ digits_value 10 (take r.1 bytes.now))) }
-{
-    let (value, count) = first;
-    let (tail, len) = by_word(&bytes[count..], 0)?;
-    if count + len > MOST {
-        return None;
-    }
-    let shifted = value.checked_mul(power_of_ten(len))?;
-    let all = shifted.checked_add(tail)?;
-    Some((all, count + len))
-}
-
-/// The value of the first digits, eight at a time and with up to seven more, and how many they are.
-#[inline(always)]
-fn leading_digits(bytes: &[u8]) -> (u64, usize)
-    ensures few { result.1 ≤ MOST }
-    ensures within { result.1 ≤ length bytes.now }
-    ensures digits { AllDigits 10 (take result.1 bytes.now) }
-    ensures value { result.0 ≡ digits_value 10 (take result.1 bytes.now) }
-{
-    let eights = leading_eights(bytes);
-    match with_tail(bytes, eights) {
-        Some(all) => all,
-        None => eights,
-    }
-}
-
-/// Finds the digits as `digits` does, many at a time and then byte by byte: for any length, and at
-/// the end of the bytes.
+/// Finds the digits as `digits` does, byte by byte: for any length, and at the end of the bytes.
 #[cold]
 #[inline(never)]
 #[tactic(auto, using(crate::proofs::OneMore::one_more))]
@@ -111,9 +31,8 @@ fn by_digit(bytes: &[u8], from: usize) -> (u64, usize)
     ensures { AreLeadingDigits bytes.now from result }
 {
     let rest = &bytes[from..];
-    let (first, count) = leading_digits(rest);
-    let mut value = first;
-    let mut i = count;
+    let mut value = 0;
+    let mut i = 0;
     while i < MOST && i < rest.len() && rest[i].is_ascii_digit() {
         let digit = u64::from(rest[i] - b'0');
         if !fits(value, digit) {

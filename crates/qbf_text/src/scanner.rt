@@ -388,9 +388,8 @@ impl Scanner {
         ensures same { result ≡ false → self.new ≡ self.old }
     {
         let is_passed = self.is_open() && self.place.skip_comment_line();
-        let numbers = &mut self.numbers;
         if is_passed {
-            numbers.pass_comment();
+            self.numbers.pass_comment();
         }
         is_passed
     }

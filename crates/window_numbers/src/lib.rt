@@ -10,14 +10,21 @@
 //! - On the map: numbers of a window | each stands at its place.
 #![tactic(auto)]
 
+mod comments;
 mod cursor;
+mod ends;
+mod filling;
 mod lines;
 mod marks;
 mod numbers;
+mod places;
 mod separators;
 mod tails;
+mod usual;
 mod values;
+mod zeros;
 
 pub use cursor::{Cursor, Passed};
-pub use numbers::{Numbers, ROOM, Zeros};
+pub use numbers::{Numbers, ROOM};
 pub use values::Values;
+pub use zeros::Zeros;

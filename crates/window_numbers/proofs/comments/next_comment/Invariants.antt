@@ -1,5 +1,5 @@
 use Rattle.qbf_tokens.proofs.Cited.{◌-◌, ◌≤◌}
-use Rattle.window_numbers.proofs.numbers.next_comment.Given as goal
+use Rattle.window_numbers.proofs.comments.next_comment.Given as goal
 
 abbrev pub invariant-loop-at : goal.invariant-loop-at
 invariant-loop-at l = record { within : l.at ≤ l.end }

@@ -3,7 +3,7 @@ use Rattle.window_numbers.proofs.Cited.{bool_byte, digits_value, take, drop, nat
 use Rattle.std.proofs.Common.{◌%◌, SFits, w32}
 use Rattle.std.proofs.lemmas.Int.{to_z-of_z}
 use Rattle.window_numbers.proofs.BufferedNumber.{found, one_at_most}
-use Rattle.window_numbers.proofs.numbers.number_before.Goals as goal
+use Rattle.window_numbers.proofs.usual.number_before.Goals as goal
 
 -- less than eleven bytes from the second one on
 inside_longest : (end : ℕ) → end < 2 ^ 64 → (end + (2 ^ 64 - 1)) % 2 ^ 64 < 11 → (0 < end) × (end ≤ 16)
