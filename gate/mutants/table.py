@@ -3,36 +3,31 @@
 from collections.abc import Iterator
 from pathlib import Path
 
+import commands
 from crates import Crates, Stopped
 
 
-class Table:
+class Table(commands.Table):
     """The mutants that are written down, by CRATE/EDIT, each with the promised one that it is, or '-'."""
 
-    def __init__(self, file: Path) -> None:
-        self.file = file
-        if not file.exists():
-            raise Stopped(f"there is no gate/{file.name}")
-        lines = file.read_text(encoding="utf-8").splitlines()
-        self.comments = [line for line in lines if line.startswith("#")]
-        self.promised = [line.removeprefix("#   ") for line in self.comments if line.startswith("#   ")]
-        rows = [line.split("\t") for line in lines if line and not line.startswith("#")]
-        for row in rows:
-            if len(row) != 2:
-                raise Stopped(f"gate/{file.name}: this line has other columns than it must: {' | '.join(row)}")
-        self.kinds: dict[str, str] = dict(rows)
+    def __init__(self, path: Path) -> None:
+        comments = [line for line in path.read_text(encoding="utf-8").splitlines() if line.startswith("#")]
+        super().__init__(path, "\n".join(comments).removeprefix("# "))
+        self.promised = [line.removeprefix("#   ") for line in comments if line.startswith("#   ")]
+        if wrong := [" | ".join(row) for row in self.rows() if len(row) != 2]:
+            raise Stopped(f"gate/{path.name}: this line has other columns than it must: {wrong[0]}")
+        self.kinds: dict[str, str] = dict(self.rows())
 
-    def store(self, repository: Crates) -> None:
+    def store_all(self, repository: Crates) -> None:
         """Writes down the mutants that there are."""
         found, _ = there(repository)
-        lines = [f"{name}\t{self.kinds.get(name, '-')}" for name in sorted(found)]
-        self.file.write_text("\n".join([*self.comments, *lines]) + "\n", encoding="utf-8")
+        self.store((name, self.kinds.get(name, "-")) for name in sorted(found))
 
     def lost(self, repository: Crates, crates: list[str]) -> Iterator[str]:
         """What differs between the mutants of some crates and those that are written down."""
         found, others = there(repository)
         is_asked = lambda name: name.split("/")[0] in crates
-        table = f"gate/{self.file.name}"
+        table = f"gate/{self.path.name}"
         yield from (f"{name} is written down in {table}, and there is no such file" for name in self.kinds if is_asked(name) and name not in found)
         more = (name for name in found if is_asked(name) and name not in self.kinds)
         yield from (f"{name} is not written down in {table} (gate/try-wrong-bodies --store)" for name in more)
