@@ -25,6 +25,8 @@ impl<'a, R: Files> SystemFiles<'a, R> {
 
 /// Why a file is not open, by the kind of the error: out of memory, or there is no such file to be
 /// read.
+#[cold]
+#[inline(never)]
 fn open_failure(kind: ErrorKind) -> OpenFault
     ensures memory { kind ≡ OutOfMemory → result ≡ NoMemory }
     ensures file { kind ≢ OutOfMemory → result ≡ NoFile }
