@@ -7,6 +7,7 @@ add to what is found.
 
 import re
 from collections.abc import Collection, Iterable
+from functools import cache
 from pathlib import Path
 from typing import Optional, Union
 
@@ -101,6 +102,7 @@ class Definitions:
                     return self.find(other, given)
         return None
 
+    @cache
     def known_in(self, module: str) -> tuple[dict[str, Named], dict[str, str]]:
         """The names that a module can use: of definitions, and of other modules."""
         names, modules = self.brought_by(self.modules[module].uses)
@@ -120,6 +122,7 @@ class Definitions:
                     names[called] = found
         return names, modules
 
+    @cache
     def used_by(self, module: str, name: str) -> set[Named]:
         """The definitions that one is made of; a constant of the code is made of none."""
         if module not in self.modules:

@@ -130,7 +130,7 @@ class Requests:
         self.followed.add((function.path, name))
         called = re.compile(rf"(?<!\w){function.name}{PARAMETERS}\(")
         for path, caller, body in self.functions:
-            for found in called.finditer(body):
+            for found in called.finditer(body) if function.name in body else ():
                 given = split_arguments(inside(body, found.end() - 1))
                 if may_be_call(function, body, found.start()) and position < len(given):
                     size = words(given[position])

@@ -7,7 +7,7 @@ body of a small test, which passes with the right body and fails with the mutant
 
 import functools
 import re
-from collections.abc import Iterable
+from collections.abc import Callable, Iterable
 from dataclasses import dataclass, field
 from pathlib import Path
 from typing import Optional
@@ -41,13 +41,14 @@ def read_mutant(path: Path, crate_name: str, crate: Path) -> Mutant:
     pairs = pairs_of(text)
     if not pairs:
         raise BadEdit("it has no pair of an old and a new text")
-    files = applied(crate, [(file, old, new) for file, old, new, _ in pairs])
+    read = functools.partial(read_file, crate)
+    files = applied([(file, old, new) for file, old, new, _ in pairs], read)
     if all(read_file(crate, name) == text for name, text in files.items()):
         raise BadEdit("it changes nothing")
     if any(right in (old, new) for _, old, new, right in pairs):
         raise BadEdit("a right text is the old or the new one")
     has_right = any(right is not None for *_, right in pairs)
-    rights = applied(crate, [(file, old, new if right is None else right) for file, old, new, right in pairs]) if has_right else {}
+    rights = applied([(file, old, new if right is None else right) for file, old, new, right in pairs], read) if has_right else {}
     mutant = Mutant(path.stem, files, rights, "\n".join(re.findall(r"(?m)^witness: ?(.*)$", text)))
     find_functions(mutant, crate_name, crate)
     return mutant
@@ -75,11 +76,11 @@ def pairs_of(text: str) -> list[Pair]:
     return pairs
 
 
-def applied(crate: Path, changes: Iterable[tuple[str, str, str]]) -> dict[str, str]:
-    """The files of the crate's folder that changes of an old text to another one leave. Raises BadEdit."""
+def applied(changes: Iterable[tuple[str, str, str]], read: Callable[[str], str]) -> dict[str, str]:
+    """The files that changes of an old text to another one leave, of those that are read by their names. Raises BadEdit."""
     files: dict[str, str] = {}
     for file, old, new in changes:
-        files[file] = replaced(file, files.get(file) or read_file(crate, file), old, new)
+        files[file] = replaced(file, files.get(file) or read(file), old, new)
     return files
 
 

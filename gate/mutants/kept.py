@@ -1,8 +1,8 @@
-"""What earlier runs on this machine found of wrong bodies that were refused with evidence, by a checksum of all that it was found from.
+"""What earlier runs on this machine found of wrong bodies and definitions that were refused, by a checksum of all that it was found from.
 
-That is the wrong body, the sources, definitions and proofs of its crate and of those below it without comments, the toolchain, and the files of
+That is the edit, the sources, definitions and proofs of its crate and of those below it without comments, the toolchain, and the files of
 the gate that judge. A caller learns what a contract says and not how the body does it, so the bodies of functions below with a contract are left
-out, but for a witness, which runs them. What is kept lies in the folder qrp_cmd/refused below that of the user's caches (XDG_CACHE_HOME, or
+out, but for a witness, which runs them, and for a wrong definition, with which they are proved again. What is kept lies in the folder qrp_cmd/refused below that of the user's caches (XDG_CACHE_HOME, or
 ~/.cache).
 """
 
@@ -15,7 +15,7 @@ from pathlib import Path
 from crates import Crates, Runs
 from rattle_source import Source, one_line
 
-JUDGES = ("try-wrong-bodies", "mutants/*.py", "rattle_source.py", "crates.py")
+JUDGES = ("try-wrong-*", "mutants/*.py", "rattle_source.py", "crates.py")
 PARTS = ("src", "specs", "proofs")
 
 
@@ -43,10 +43,10 @@ def checksum(*texts: bytes) -> str:
 
 
 class Kept:
-    """The refusals that are kept of the wrong bodies of a repository."""
+    """The refusals that are kept of the edits of a repository: those of one folder of each crate."""
 
-    def __init__(self, repository: Crates, rt: str, judges: Path) -> None:
-        self.repository = repository
+    def __init__(self, repository: Crates, rt: str, judges: Path, edits: str = "must-fail") -> None:
+        self.repository, self.edits = repository, edits
         self.folder = Path(os.environ.get("XDG_CACHE_HOME") or Path.home() / ".cache") / "qrp_cmd" / "refused"
         _, version, _ = Runs().run([rt, "version"], repository.root)
         files = sorted(path for pattern in JUDGES for path in judges.glob(pattern))
@@ -62,7 +62,7 @@ class Kept:
         return checksum(self.repository.lines[name].encode(), *below, *texts).encode()
 
     def file(self, name: str, edit: str, has_bodies: bool) -> Path:
-        text = (self.repository.folder(name) / "must-fail" / f"{edit}.edit").read_bytes()
+        text = (self.repository.folder(name) / self.edits / f"{edit}.edit").read_bytes()
         return self.folder / checksum(self.judged_by.encode(), self.of_crate(name, True, has_bodies), edit.encode(), text)
 
     def find(self, name: str, edit: str) -> str:

@@ -24,10 +24,6 @@ from .witnesses import Run, Witness
 
 # How a mutant was refused.
 FALSE, NOT_SHOWN, WITNESS = "false for the contract", "not shown, and the right body is proved", "not shown, and wrong by a witness"
-# What becomes of the others.
-PROVED = "no goal is open with this body"
-NOT_LOOKED_AT = "was not looked at: what it calls is not proved"
-NOT_OF_CONTRACT = "no goal of its contract is open"
 
 
 @dataclass
@@ -104,11 +100,11 @@ class CrateTrial:
         if wrong is None or wrong.fault:
             return Verdict("", why=f"no check reads it: {wrong.fault if wrong else 'it was not tried'}")
         if not wrong.is_known():
-            return Verdict("", why=NOT_LOOKED_AT)
+            return Verdict("", why="was not looked at: what it calls is not proved")
         goals, others = wrong.goals(True), wrong.goals(False)
         if not goals:
-            why = [f"{function}: {goal}: {NOT_OF_CONTRACT}" for function, goal, _ in others] + wrong.misfits() + [PROVED]
-            return Verdict("", why=why[0])
+            why = [f"{function}: {goal}: no goal of its contract is open" for function, goal, _ in others] + wrong.misfits()
+            return Verdict("", why=[*why, "no goal is open with this body"][0])
         function, goal, is_false = goals[0]
         is_own = is_answered and not mutant.rights
         if is_own or right is not None and right.is_proved():
@@ -199,7 +195,7 @@ class Trial:
         asked = [(witness, mutant, verdict) for mutant, verdict in needy for witness in [Witness(mutant, trial.bodies)]]
         self.run_witnesses(trial, f"witnesses of {needy[0][0].name}", [run for witness, _, _ in asked for run in witness.runs if run.is_beside])
         for witness, mutant, verdict in asked:
-            if witness.is_run():
+            if all(run.passed is not None for run in witness.runs):
                 self.tell(trial.name, mutant, judged(witness, verdict))
             else:
                 self.lanes.add((trial.name, "witness", mutant.name), [], partial(self.ask_alone, trial, (witness, mutant, verdict)))

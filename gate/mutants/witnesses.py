@@ -41,6 +41,3 @@ class Witness:
         right = bodies.right(mutant, True) if mutant.rights else None
         # the first of the files that it changes
         self.runs = [Run(next(iter(mutant.files)), mutant.witness, body) for body in (right, bodies.wrong(mutant, True))]
-
-    def is_run(self) -> bool:
-        return all(run.passed is not None for run in self.runs)
