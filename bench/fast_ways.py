@@ -12,10 +12,11 @@ import shutil
 import subprocess
 from collections.abc import Callable
 from dataclasses import dataclass
+from functools import partial
 from pathlib import Path
 
-from crates import PARTS, Crates, Stopped, copy, copy_crate
-from mutants.edits import BadEdit, applied, functions_of, pairs_of, words_of
+from crates import PARTS, Crates, Stopped, copy
+from mutants.edits import BadEdit, applied, functions_of, pairs_of, read_file, words_of
 
 ROOT = Path(__file__).resolve().parent.parent
 SWITCHES = ROOT / "bench" / "switches"
@@ -78,7 +79,8 @@ def lay_out(folder: Path, ways: list[FastWay], kept: bool = True) -> None:
     (folder / "crates.txt").write_text("".join(f"{repository.lines[name]}\n" for name in names), encoding="utf-8")
     shutil.copytree(ROOT / "gate", folder / "gate", ignore=shutil.ignore_patterns("__pycache__"))
     for name in names:
-        copy_crate(repository.folder(name), folder / "crates" / name)
+        for part in PARTS:
+            copy(repository.folder(name) / part, folder / "crates" / name / part)
         for part in ("rlib", "incremental") if kept else ():
             copy(repository.folder(name) / "out" / part, folder / "crates" / name / "out" / part, linked=True)
     for way in ways:
@@ -88,7 +90,7 @@ def lay_out(folder: Path, ways: list[FastWay], kept: bool = True) -> None:
 def changed_files(root: Path, way: FastWay) -> dict[str, str]:
     """The files that the switch of a fast way changes in a tree, by their paths in the crate, as they are then. Raises Stopped."""
     try:
-        return applied(root / "crates" / way.crate, list(way.changes))
+        return applied(way.changes, partial(read_file, root / "crates" / way.crate))
     except BadEdit as why:
         raise Stopped(f"{way.name}.edit: {why}") from None
 

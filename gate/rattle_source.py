@@ -56,17 +56,12 @@ def with_blanks(text: str, places: Iterable[tuple[int, int]]) -> str:
 
 
 def blanked(text: str) -> str:
-    """The text with blanks in place of comments and within texts."""
-    return with_blanks(quoted(text), [(start, end) if is_comment else (start + 1, end - 1) for is_comment, start, end in marks(text)])
-
-
-def quoted(text: str) -> str:
-    """The text with a quote as the first and the last letter of each text."""
-    letters = list(text)
-    for is_comment, start, end in marks(text):
+    """The text with blanks in place of comments and within texts, of each of which a quote is the first and the last letter."""
+    letters, places = list(text), list(marks(text))
+    for is_comment, start, end in places:
         if not is_comment:
             letters[start] = letters[end - 1] = '"'
-    return "".join(letters)
+    return with_blanks("".join(letters), [(start, end) if is_comment else (start + 1, end - 1) for is_comment, start, end in places])
 
 
 def without_comments(text: str) -> str:
