@@ -38,10 +38,12 @@ LIBRARY_TESTS = crates/formula_tests/out/formula_tests_tests crates/trace_tests/
 LIBDIR ?= $(PREFIX)/lib
 MANDIR ?= $(PREFIX)/share/man
 
-.PHONY: all lib static demo check test proved-before gate bench dist wheel deb image install uninstall help clean
-.PHONY: test-refusals test-program test-strategy test-derivations test-tools test-examples test-library test-dist test-install test-many
-.PHONY: test-proofs
-.PHONY: test-definitions test-checks test-pages test-switches test-beside
+# what is tested of what is built, but for the tests of the libraries
+TESTS = test-program test-strategy test-derivations test-tools test-examples test-library test-dist test-install test-many test-proofs \
+	test-definitions test-checks test-pages test-switches test-beside
+
+.PHONY: all lib static demo check test programs linked check-programs gate bench dist wheel deb image install uninstall help
+.PHONY: clean test-refusals $(TESTS)
 
 all: $(PROGRAM) $(STRATEGY)
 
@@ -73,15 +75,15 @@ demo: all
 $(PROVED): $(SOURCES)
 	@echo 'proves the crates and their tests: some minutes more than the programs alone, from nothing'
 	RT=$(RT) gate/prove --tests
-	$(MAKE) --no-print-directory proved-before
+	$(MAKE) --no-print-directory programs
+	touch $(PROVED)
 
-# The same was done before: only the programs are put in their places.
-proved-before:
+# The programs are put in their places.
+programs:
 	mkdir -p bin
 	cp crates/qrp_cmd/out/qrp_cmd $(PROGRAM)
 	cp crates/qrp_echo/out/qrp_echo $(ECHO)
 	cp crates/qrp_strategy/out/qrp_strategy $(STRATEGY)
-	touch $(PROVED)
 
 test: $(PROVED)
 	RT=$(RT) packaging/build-library lib
@@ -91,13 +93,19 @@ test: $(PROVED)
 	docs/describe-crates --check
 	$(MAKE) --no-print-directory check
 
-# What is built is tested, side by side: some four minutes. The static programs are only linked. `make all lib` is enough to run this; what
-# needs more is named at the end.
-check:
+# What is built is tested, side by side: four to six minutes. `make all lib` is enough to run this; what needs more is named at the end.
+check: linked
+	$(MAKE) --jobs --output-sync=target test-refusals $(TESTS)
+	@for built in $(ECHO) $(LIBRARY_TESTS) $(STATIC); do [ -e $$built ] || echo "make check: there is no $$built, so what needs it was left out; 'make test' builds it"; done
+
+# The same, but for the tests of the libraries, which the gate runs once it has built them.
+check-programs: linked
+	$(MAKE) --jobs --output-sync=target $(TESTS)
+
+# The static programs are only linked.
+linked:
 	@for built in $(PROGRAM) $(STRATEGY) $(LIBRARY); do [ -e $$built ] || { echo "make check: there is no $$built: run 'make all lib' first"; exit 2; }; done
 	@{ [ $(PROGRAM).static -nt $(PROGRAM) ] && [ $(STRATEGY).static -nt $(STRATEGY) ]; } || { rm -f $(STATIC) && RT=$(RT) packaging/build-static bin; } || true
-	$(MAKE) --jobs --output-sync=target test-refusals test-program test-strategy test-derivations test-tools test-examples test-library test-dist test-install test-many test-proofs test-definitions test-checks test-pages test-switches test-beside
-	@for built in $(ECHO) $(LIBRARY_TESTS) $(STATIC); do [ -e $$built ] || echo "make check: there is no $$built, so what needs it was left out; 'make test' builds it"; done
 
 test-refusals:
 	$(if $(wildcard $(LIBRARY_TESTS)),tests/library/test-refusals,@echo 'left out: test-refusals')

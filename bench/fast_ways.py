@@ -15,7 +15,7 @@ from dataclasses import dataclass
 from functools import partial
 from pathlib import Path
 
-from crates import PARTS, Crates, Stopped, copy
+from crates import PARTS, Crates, Stopped, copy, copy_crate
 from mutants.edits import BadEdit, applied, functions_of, pairs_of, read_file, words_of
 
 ROOT = Path(__file__).resolve().parent.parent
@@ -79,8 +79,7 @@ def lay_out(folder: Path, ways: list[FastWay], kept: bool = True) -> None:
     (folder / "crates.txt").write_text("".join(f"{repository.lines[name]}\n" for name in names), encoding="utf-8")
     shutil.copytree(ROOT / "gate", folder / "gate", ignore=shutil.ignore_patterns("__pycache__"))
     for name in names:
-        for part in PARTS:
-            copy(repository.folder(name) / part, folder / "crates" / name / part)
+        copy_crate(repository.folder(name), folder / "crates" / name)
         for part in ("rlib", "incremental") if kept else ():
             copy(repository.folder(name) / "out" / part, folder / "crates" / name / "out" / part, linked=True)
     for way in ways:

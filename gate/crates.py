@@ -62,14 +62,18 @@ class Crates:
         names = [*self.below(name), name]
         (room / "crates.txt").write_text("".join(f"{self.lines[one]}\n" for one in names), encoding="utf-8")
         for one in names:
-            for part in PARTS:
-                copy(self.folder(one) / part, room / "crates" / one / part)
+            copy_crate(self.folder(one), room / "crates" / one)
         for below in self.below(name):
             copy(self.folder(below) / "out" / "rlib", room / "crates" / below / "out" / "rlib", linked=True)
         if kept:
             copy(self.folder(name) / "out" / "rlib", room / "crates" / name / "out" / "rlib", linked=True)
             copy(self.folder(name) / "out" / "incremental", room / "crates" / name / "out" / "incremental", linked=True)
         return Crates(room)
+
+
+def copy_crate(source: Path, target: Path) -> None:
+    for part in PARTS:
+        copy(source / part, target / part)
 
 
 def copy(source: Path, target: Path, linked: bool = False) -> None:

@@ -18,7 +18,7 @@ from typing import Optional
 
 from memory_places import SELF
 from mutants.edits import parts_of
-from rattle_source import Function, Source, end_of_group, find_outside
+from rattle_source import Function, Source, apart, end_of_group, find_outside
 
 Request = tuple[str, str, str]  # the file, the function, and what it asks for
 
@@ -97,7 +97,7 @@ class Requests:
         """Notes a request with the expression of its size."""
         name = found["name"] or found["heap"] or f"{found['macro']}!"
         what = words(inside(body, found.end() - 1))
-        given = split_arguments(what, ";" if name == "vec!" else ",") or [""]
+        given = apart(what, ";" if name == "vec!" else ",") or [""]
         size = given[0] if name.removeprefix("try_").startswith(("reserve", "resize")) else given[-1]
         self.note(path, function, f"{name}({what})", size, body[: found.start()])
 
@@ -131,7 +131,7 @@ class Requests:
         called = re.compile(rf"(?<!\w){function.name}{PARAMETERS}\(")
         for path, caller, body in self.functions:
             for found in called.finditer(body) if function.name in body else ():
-                given = split_arguments(inside(body, found.end() - 1))
+                given = apart(inside(body, found.end() - 1))
                 if may_be_call(function, body, found.start()) and position < len(given):
                     size = words(given[position])
                     self.note(path, caller, f"{name} of {function.name}: {size}", size, body[: found.start()])
@@ -184,15 +184,6 @@ def loops_of(body: str) -> Iterator[tuple[int, int, str]]:
 def inside(text: str, start: int) -> str:
     """What stands in the bracket that begins at a place."""
     return text[start + 1 : end_of_group(text, start) - 1]
-
-
-def split_arguments(text: str, comma: str = ",") -> list[str]:
-    parts, start = [], 0
-    while start < len(text):
-        end = find_outside(text, start, len(text), comma)
-        parts.append(text[start:end])
-        start = end + 1
-    return [part for part in parts if part.strip()]
 
 
 def passed_as(function: Function, name: str) -> Optional[int]:

@@ -56,7 +56,7 @@ def with_blanks(text: str, places: Iterable[tuple[int, int]]) -> str:
 
 
 def blanked(text: str) -> str:
-    """The text with blanks in place of comments and within texts, of each of which a quote is the first and the last letter."""
+    """The text with blanks in place of comments and within texts; each text begins and ends with a quote."""
     letters, places = list(text), list(marks(text))
     for is_comment, start, end in places:
         if not is_comment:
@@ -99,11 +99,10 @@ def find_outside(plain: str, start: int, end: int, letters: str) -> int:
 
 
 def apart(words: str, comma: str = ",") -> list[str]:
-    """The parts of a text between commas that stand in no bracket."""
-    parts, depth = [""], 0
-    for at, letter in enumerate(words):
-        is_arrow = letter == ">" and words[at - 1 : at] in ("-", "=")
-        depth += {"<": 1, "(": 1, "[": 1, "{": 1, ">": -1, ")": -1, "]": -1, "}": -1}.get(letter, 0) if not is_arrow else 0
+    """The parts of a text between commas that stand in no bracket; arrows, and `<` and `>` between blanks, are none."""
+    plain, parts, depth = re.sub(r"[-=]>| (?:<<?|>>?)=? ", lambda found: " " * len(found[0]), words), [""], 0
+    for letter, bracket in zip(words, plain):
+        depth += {"<": 1, "(": 1, "[": 1, "{": 1, ">": -1, ")": -1, "]": -1, "}": -1}.get(bracket, 0)
         if letter == comma and depth == 0:
             parts.append("")
         else:

@@ -1,31 +1,30 @@
 """What earlier runs on this machine found of wrong bodies and definitions that were refused, by a checksum of all that it was found from.
 
-That is the edit, the sources, definitions and proofs of its crate and of those below it without comments, the toolchain, and the files of
-the gate that judge. A caller learns what a contract says and not how the body does it, so the bodies of functions below with a contract are left
-out, but for a witness, which runs them, and for a wrong definition, with which they are proved again. What is kept lies in the folder qrp_cmd/refused below that of the user's caches (XDG_CACHE_HOME, or
-~/.cache).
+That is the edit, the sources, definitions and proofs of its crate and of those below it without comments, the toolchain, and the files of the
+gate that judge. A caller learns what a contract says and not how the body does it, so the bodies of functions below with a contract are left
+out, but for a witness, which runs them, and for a wrong definition, with which they are proved again. What is kept lies in the folder
+qrp_cmd/refused below that of the user's caches (XDG_CACHE_HOME, or ~/.cache).
 """
 
 import functools
 import hashlib
 import os
-import re
 from pathlib import Path
 
 from crates import Crates, Runs
+from definitions import without_comments
 from rattle_source import Source, one_line
 
-JUDGES = ("try-wrong-*", "mutants/*.py", "rattle_source.py", "crates.py")
+JUDGES = ("try-wrong-*", "mutants/*.py", "rattle_source.py", "crates.py", "definitions.py")
 PARTS = ("src", "specs", "proofs")
 
 
-def without_comments(file: Path, has_bodies: bool) -> bytes:
+def read(file: Path, has_bodies: bool) -> bytes:
     """The text of a source without comments; of a definition or a proof with its layout, which says what belongs together."""
     text = file.read_text(encoding="utf-8")
     if file.suffix == ".rt":
         return one_line(text if has_bodies else without_bodies(text)).encode()
-    lines = (re.sub(r"(^|\s)--.*$", r"\1", line).rstrip() for line in text.splitlines())
-    return "\n".join(line for line in lines if line).encode()
+    return "\n".join(line for line in map(str.rstrip, without_comments(text).splitlines()) if line).encode()
 
 
 def without_bodies(text: str) -> str:
@@ -57,7 +56,7 @@ class Kept:
         """The checksum of a crate's files and of those of the crates below it, with the bodies that a caller does not see or without."""
         folder = self.repository.folder(name)
         files = sorted(file for part in PARTS for file in (folder / part).rglob("*") if file.is_file())
-        texts = [text for file in files for text in (str(file.relative_to(folder)).encode(), without_comments(file, has_bodies))]
+        texts = [text for file in files for text in (str(file.relative_to(folder)).encode(), read(file, has_bodies))]
         below = [self.of_crate(dep, has_those_below, has_those_below) for dep in self.repository.on[name]]
         return checksum(self.repository.lines[name].encode(), *below, *texts).encode()
 

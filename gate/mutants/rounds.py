@@ -6,9 +6,9 @@ from pathlib import Path
 from .bodies import Body
 from .edits import source_of
 
-# The most that go together, and the most of one function: so many that loading the crate hardly counts, and so few that the processors are
-# all used, also where a function takes long.
-MOST, MOST_OF_ONE = 20, 5
+# The most that go together, of many and of few, and the most of one function: so many that loading the crate hardly counts, and so few that the
+# processors are all used, also where a function takes long.
+MOST, MOST_OF_FEW, MOST_OF_ONE = 20, 5, 5
 
 # Methods of std that some types of ours have too: a call of one is taken for std's, but on `self`.
 OF_STD = {"push", "pop", "len", "get", "insert", "contains", "first", "last", "position", "is_empty", "new", "find", "take", "clone"}
@@ -59,11 +59,16 @@ def reached(graph: Graph) -> Graph:
     return found
 
 
-def rounds(bodies: list[Body], reach: Graph) -> list[list[Body]]:
+def most_together(mutants: int, jobs: int) -> int:
+    """How many go together at most, by how many mutants there are in all: so few that there are two checks for each job."""
+    return max(MOST_OF_FEW, min(MOST, mutants // (2 * jobs)))
+
+
+def rounds(bodies: list[Body], reach: Graph, most: int) -> list[list[Body]]:
     """The bodies in groups: no function that stands changed in its place in a group is called by one that another body of it is of."""
     groups: list[list[Body]] = []
     for body in sorted(bodies, key=lambda body: (len(body.functions) == 1, body.copy is not None, body.name)):
-        fitting = (group for group in groups if has_room(group, body) and all(are_apart(body, other, reach) for other in group))
+        fitting = (group for group in groups if has_room(group, body, most) and all(are_apart(body, other, reach) for other in group))
         group: list[Body] = next(fitting, [])
         if not group:
             groups.append(group)
@@ -71,8 +76,8 @@ def rounds(bodies: list[Body], reach: Graph) -> list[list[Body]]:
     return groups
 
 
-def has_room(group: list[Body], body: Body) -> bool:
-    return len(group) < MOST and sum(body.functions == other.functions for other in group) < MOST_OF_ONE
+def has_room(group: list[Body], body: Body, most: int) -> bool:
+    return len(group) < most and sum(body.functions == other.functions for other in group) < MOST_OF_ONE
 
 
 def are_apart(one: Body, other: Body, reach: Graph) -> bool:

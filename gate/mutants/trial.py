@@ -18,7 +18,7 @@ from crates import Crates, Lanes, Runs, processors
 from .bodies import Bodies, Body, right_name
 from .edits import BadEdit, Mutant, read_mutant
 from .prover import Prover
-from .rounds import Graph, calls, reached, rounds
+from .rounds import MOST, Graph, calls, most_together, reached, rounds
 from .said import Said
 from .witnesses import Run, Witness
 
@@ -127,11 +127,13 @@ class Trial:
         self.repository, self.tell = repository, tell
         self.runs = Runs()
         self.lanes = Lanes(jobs, self.runs)
+        self.jobs, self.most = jobs, MOST
         self.prover = Prover(repository, rt, self.runs, folder)
 
     def run(self, mutants: dict[str, list[Mutant]]) -> None:
         """Tries the mutants of each crate, and tells the verdict on each."""
         names = [name for name in mutants if mutants[name]]
+        self.most = most_together(sum(len(those) for those in mutants.values()), self.jobs)
         for name in self.repository.on:
             if any(name == above or name in self.repository.below(above) for above in names):
                 after = [("proved", below) for below in self.repository.below(name)]
@@ -151,7 +153,7 @@ class Trial:
 
     def add(self, trial: CrateTrial, bodies: list[Body], label: str, after: list[Hashable], then: Callable[[], None]) -> None:
         """Adds the rounds of some bodies; after them those that a round did not decide, alone and in their places; and what then follows."""
-        keys = self.add_rounds(trial, rounds(bodies, trial.reach), label, after)
+        keys = self.add_rounds(trial, rounds(bodies, trial.reach, self.most), label, after)
 
         def try_left(_: int) -> None:
             left = [body.in_place() for body in bodies if not trial.outcomes[body.is_answered, body.name].is_known()]
