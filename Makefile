@@ -86,7 +86,7 @@ programs:
 	cp crates/qrp_strategy/out/qrp_strategy $(STRATEGY)
 
 test: $(PROVED)
-	RT=$(RT) packaging/build-library lib
+	RT=$(RT) packaging/build-library --proved lib
 	gate/check-promises
 	gate/check-memory-faults
 	gate/check-adapters

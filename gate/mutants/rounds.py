@@ -8,7 +8,7 @@ from .edits import source_of
 
 # The most that go together, of many and of few, and the most of one function: so many that loading the crate hardly counts, and so few that the
 # processors are all used, also where a function takes long.
-MOST, MOST_OF_FEW, MOST_OF_ONE = 20, 5, 5
+MOST, MOST_OF_FEW, MOST_OF_ONE = 30, 5, 5
 
 # Methods of std that some types of ours have too: a call of one is taken for std's, but on `self`.
 OF_STD = {"push", "pop", "len", "get", "insert", "contains", "first", "last", "position", "is_empty", "new", "find", "take", "clone"}
