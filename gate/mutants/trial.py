@@ -3,7 +3,7 @@
 A mutant is refused if the contract of a function that it changes is open with it, and closes whole with the right body under the same
 conditions. First both are tried with the function's stored answers. If one of these does not fit either of them, or is asked for by no goal, all
 answers of the function are taken out, of both. If the right body needs its answers, the mutant needs a witness: a test in its file, which must
-pass with the right body and fail with the mutant.
+pass with the right body and fail with the mutant. One that has a witness is judged by that, and the right body is not tried without answers.
 """
 
 import time
@@ -81,9 +81,9 @@ class CrateTrial:
         return [*(self.bodies.wrong(mutant, True) for mutant in self.mutants), *right]
 
     def unanswered(self) -> list[Body]:
-        """The bodies that are tried without: those of mutants with which an answer does not fit, or with their right bodies."""
+        """The bodies tried without: mutants with which, or with whose right bodies, an answer does not fit, and these unless a witness tells."""
         left = [mutant for mutant in self.mutants if not self.fits(mutant)]
-        right = {body.name: body for body in (self.bodies.right(mutant, False) for mutant in left)}
+        right = {body.name: body for body in (self.bodies.right(mutant, False) for mutant in left if not mutant.witness)}
         return [*(self.bodies.wrong(mutant, False) for mutant in left), *right.values()]
 
     def fits(self, mutant: Mutant) -> bool:
@@ -138,8 +138,8 @@ class Trial:
             if any(name == above or name in self.repository.below(above) for above in names):
                 after = [("proved", below) for below in self.repository.below(name)]
                 self.lanes.add(("proved", name), after, partial(self.prover.prove, name), processors())
-        # The crates above take longest, so they come first wherever they are proved by then.
-        for name in reversed(names):
+        # Those with the most mutants take longest, so they come first; and of others those above.
+        for name in sorted(reversed(names), key=lambda name: -len(mutants[name])):
             folder = self.repository.folder(name)
             trial = CrateTrial(name, folder, mutants[name], reached(calls(name, folder)))
             self.add(trial, trial.answered(), "", [("proved", name)], partial(self.go_on, trial))
