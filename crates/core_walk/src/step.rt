@@ -204,9 +204,7 @@ pub(crate) fn step_fault<S: Side>(
     ensures known { OnOk result (AreKnown context.entry.formula.now state.new.initial) }
 {
     if let Some(found) = premises {
-        let follows = accepts_as_written::<S>(context, found, state, lits)?;
-        state.seen.had_memory()?;
-        if follows {
+        if accepts_as_written::<S>(context, found, state, lits)? {
             return Ok(None);
         }
     }

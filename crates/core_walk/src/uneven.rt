@@ -105,9 +105,7 @@ fn accepts_by_part<S: Side, T: KeptSteps>(
     let Some(short) = shorter::<S, T>(context, trace, &state.parts, step) else {
         return Ok(false);
     };
-    let follows = accepts_as_written::<S>(context, short, &mut state.tests, step.lits)?;
-    state.tests.seen.had_memory()?;
-    Ok(follows)
+    accepts_as_written::<S>(context, short, &mut state.tests, step.lits)
 }
 
 /// The longer antecedent of a step, with its number.

@@ -245,9 +245,9 @@ exact_follows rules side blocks a b to rest_a rest_b x is allowed none_a none_b 
 
 -- ---- a set of literals that grows
 
-pub put_one : (s t : Members) (x : Literal) (May : Literal → Type 0) (ok : Bool)
-    → ((l : Literal) → Has t l ↔ (Has s l ⊎ ((l ≡ x) × IsTrue ok))) → (Has s (negated x) → ⊥) → May x → IsPutBy s t May
-put_one s t x May ok is out may = record {
+pub put_one : (s t : Members) (x : Literal) (May : Literal → Type 0) (Put : Type 0)
+    → ((l : Literal) → Has t l ↔ (Has s l ⊎ ((l ≡ x) × Put))) → (Has s (negated x) → ⊥) → May x → IsPutBy s t May
+put_one s t x May Put is out may = record {
   kept = λ l h. (is l).1 (inl h);
   only = λ l h. elim ((is l).0 h) [ inl k ↦ inl k | inr e ↦ inr (subst May (sym e.0) may) ];
   clean = λ none l h k. elim ((is l).0 h) [

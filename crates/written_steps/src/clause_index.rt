@@ -28,8 +28,15 @@ enum Kind {
 
 /// The sum of the literals of a list, each once. Their order does not matter. If the reducible ones
 /// are named, they are left out.
+///
+/// # Errors
+/// If an allocation fails.
 #[inline(always)]
-fn sum_but(seen: &mut SeenLits, reducible: Option<Reducible>, lits: &[Lit]) -> u64 {
+fn sum_but(
+    seen: &mut SeenLits,
+    reducible: Option<Reducible>,
+    lits: &[Lit],
+) -> Result<u64, AllocError> {
     let ordered = is_ordered(lits);
     let mut sum: u64 = 0;
     seen.clear();
@@ -38,15 +45,23 @@ fn sum_but(seen: &mut SeenLits, reducible: Option<Reducible>, lits: &[Lit]) -> u
             Some(reducible) => !reducible.has(lit.var()),
             None => true,
         };
-        if counts && (ordered || seen.is_new(*lit)) {
+        if counts && (ordered || seen.is_new(*lit)?) {
             sum = sum.wrapping_add(mixed(*lit));
         }
     }
-    sum
+    Ok(sum)
 }
 
 /// The sum of this kind of a list.
-fn sum_of(kind: Kind, seen: &mut SeenLits, prefix: &Prefix, lits: &[Lit]) -> u64 {
+///
+/// # Errors
+/// If an allocation fails.
+fn sum_of(
+    kind: Kind,
+    seen: &mut SeenLits,
+    prefix: &Prefix,
+    lits: &[Lit],
+) -> Result<u64, AllocError> {
     match kind {
         Kind::All => sum_but(seen, None, lits),
         Kind::Kept => sum_but(
@@ -211,7 +226,7 @@ impl ClauseIndex {
         seen.make_room(formula.prefix())?;
         let mut chains = Chains::new(self.alloc, count)?;
         for position in (0..count).rev() {
-            let sum = sum_of(self.kind, seen, formula.prefix(), formula.clause(position));
+            let sum = sum_of(self.kind, seen, formula.prefix(), formula.clause(position))?;
             chains.push(sum, position);
         }
         Ok(chains)
@@ -226,7 +241,7 @@ impl ClauseIndex {
     ) -> Result<Option<usize>, AllocError>
         ensures { IfOk result (λ found. IfSome found (IsAcceptedAt formula.now query.entry.lits.now)) }
     {
-        let sum = sum_of(self.kind, seen, formula.prefix(), query.lits);
+        let sum = sum_of(self.kind, seen, formula.prefix(), query.lits)?;
         if let Some(chains) = &self.chains {
             return chains.find(seen, formula, sum, query);
         }
@@ -328,9 +343,7 @@ impl InitialClauses {
         ensures found { IfOk result (λ found. IfSome found (IsReductAt formula.now lits.now)) }
         ensures only { IfOk result (λ found. IfNone found (HasNoReduct formula.now lits.now)) }
     {
-        let found = self.find_again(formula, seen, lits)?;
-        seen.had_memory()?;
-        if let Some(position) = found {
+        if let Some(position) = self.find_again(formula, seen, lits)? {
             return Ok(Some(position));
         }
         match LitSet::from_slice(self.kept.alloc, lits, formula.prefix()) {

@@ -27,8 +27,7 @@ pub(crate) fn is_tautology(
     if surely_clean(seen, prefix, clause)? {
         return Ok(false);
     }
-    seen.set_each(clause);
-    seen.had_memory()?;
+    seen.set_each(clause)?;
     match find_negated(seen, clause) {
         Some(_) => Ok(true),
         None => Ok(has_clash(clause)),

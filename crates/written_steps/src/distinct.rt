@@ -19,7 +19,7 @@ fn push_new(seen: &mut SeenLits, lit: Lit, lists: &mut GrowingLists<Lit>) -> Res
     ensures seen { OnOk result (AreAmong seen.old lists.old.unfinished
         → (lit ∈ lists.new.unfinished) × AreAmong seen.new lists.new.unfinished) }
 {
-    if !seen.is_new(lit) {
+    if !seen.is_new(lit)? {
         return Ok(());
     }
     lists.push(lit)

@@ -304,7 +304,7 @@ impl InitialCubes {
         if !are_bound(formula.prefix(), lits) {
             return Ok(false);
         }
-        if !set_if_clean(seen, lits) {
+        if !set_if_clean(seen, lits)? {
             return Ok(false);
         }
         self.is_watching = self.watch(formula, Cube { lits, seen })?;

@@ -46,8 +46,6 @@ pub struct SeenLits {
     stamp: u32,
     /// The numbers of those that are in the set and have no stamp, since there is no room for one.
     far: IndexSet<usize>,
-    /// Whether a literal was not put in, since an allocation failed.
-    failed: Option<AllocError>,
     /// Whether a literal was put in again by `set_if_clean`. Contracts say nothing of it.
     repeated: bool,
 }
@@ -73,20 +71,7 @@ impl SeenLits {
             stamps: Vec::new(alloc),
             stamp: 1,
             far: IndexSet::new(alloc),
-            failed: None,
             repeated: false,
-        }
-    }
-
-    /// Whether there was memory for each literal that was put in so far.
-    ///
-    /// # Errors
-    /// If an allocation failed.
-    #[inline(always)]
-    pub fn had_memory(&self) -> Result<(), AllocError> {
-        match self.failed {
-            Some(AllocError) => Err(AllocError),
-            None => Ok(()),
         }
     }
 
@@ -171,37 +156,30 @@ impl SeenLits {
         Ok(())
     }
 
-    /// Puts the literal in, or returns `false` if there is no memory for it.
-    pub(crate) fn insert(&mut self, lit: Lit) -> bool
-        ensures { (l : Literal) → Has self.new l ↔ (Has self.old l ⊎ ((l ≡ lit) × IsTrue result)) }
-    {
-        match self.put(lit) {
-            Ok(()) => true,
-            Err(error) => {
-                self.failed = Some(error);
-                false
-            }
-        }
-    }
-
-    /// Puts the literal in if there is memory for it, and says whether it was not there.
-    pub(crate) fn is_new(&mut self, lit: Lit) -> bool
-        ensures there { result ≡ false → Has self.old lit }
+    /// Puts the literal in, and says whether it was not there.
+    ///
+    /// # Errors
+    /// If an allocation fails. The literal is not put in then.
+    pub(crate) fn is_new(&mut self, lit: Lit) -> Result<bool, AllocError>
+        ensures there { IfOk result (λ new. new ≡ false → Has self.old lit) }
         ensures only { (l : Literal) → Has self.new l → Has self.old l ⊎ (l ≡ lit) }
     {
         if self.contains(lit) {
-            return false;
+            return Ok(false);
         }
-        self.insert(lit);
-        true
+        self.put(lit)?;
+        Ok(true)
     }
 
-    /// Replaces the set by the literals of a list for which there is memory.
-    pub(crate) fn set_each(&mut self, lits: &[Lit])
+    /// Replaces the set by the literals of a list.
+    ///
+    /// # Errors
+    /// If an allocation fails. The set has only some of the literals then.
+    pub(crate) fn set_each(&mut self, lits: &[Lit]) -> Result<(), AllocError>
         ensures { (l : Literal) → Has self.new l → l ∈ lits.now }
     {
         self.clear();
-        put_each(self, lits);
+        put_each(self, lits)
     }
 
     /// Whether the variables are seen to be pairwise distinct and none to be `other`. Nothing is
@@ -320,52 +298,62 @@ fn stamp_clean(stamps: &mut [u32], stamp: u32, lits: &[Lit], repeated: &mut bool
     lits.len()
 }
 
-/// Puts in the literals from a position on, and says whether all are seen to be clean. Those before
-/// the position are all that the set has.
+/// Puts in the literals from a position on, and says whether all are clean. Those before the
+/// position are all that the set has.
+///
+/// # Errors
+/// If an allocation fails.
 #[cold]
 #[inline(never)]
-fn put_if_clean(seen: &mut SeenLits, lits: &[Lit], begin: usize) -> bool
+fn put_if_clean(seen: &mut SeenLits, lits: &[Lit], begin: usize) -> Result<bool, AllocError>
     requires clean { IsClean (take begin lits.now) }
     requires members { (l : Literal) → Has seen.old l ↔ l ∈ take begin lits.now }
-    ensures clean { IsTrue result → IsClean lits.now }
-    ensures members { IsTrue result → (l : Literal) → Has seen.new l ↔ l ∈ lits.now }
+    ensures clean { IfOk result (λ t. IsTrue t → IsClean lits.now) }
+    ensures members { IfOk result
+        (λ t. IsTrue t → (l : Literal) → Has seen.new l ↔ l ∈ lits.now) }
 {
     for position in begin..lits.len() {
         let lit = lits[position];
         if seen.contains(lit.negated()) {
-            return false;
+            return Ok(false);
         }
         let again = seen.contains(lit);
         seen.note_repeated(again);
-        if !seen.insert(lit) {
-            return false;
-        }
+        seen.put(lit)?;
     }
-    true
+    Ok(true)
 }
 
-/// Replaces the set by these literals if they are seen to be clean, and says whether it did. Notes
-/// if one is there twice.
-pub(crate) fn set_if_clean(seen: &mut SeenLits, lits: &[Lit]) -> bool
-    ensures clean { IsTrue result → IsClean lits.now }
-    ensures members { IsTrue result → (l : Literal) → Has seen.new l ↔ l ∈ lits.now }
+/// Replaces the set by these literals if they are clean, and says whether it did. Notes if one is
+/// there twice.
+///
+/// # Errors
+/// If an allocation fails.
+pub(crate) fn set_if_clean(seen: &mut SeenLits, lits: &[Lit]) -> Result<bool, AllocError>
+    ensures clean { IfOk result (λ t. IsTrue t → IsClean lits.now) }
+    ensures members { IfOk result
+        (λ t. IsTrue t → (l : Literal) → Has seen.new l ↔ l ∈ lits.now) }
 {
     seen.clear();
     let begin = stamp_clean(&mut seen.stamps, seen.stamp, lits, &mut seen.repeated);
     if begin == lits.len() {
-        return true;
+        return Ok(true);
     }
     put_if_clean(seen, lits, begin)
 }
 
-/// Puts in each literal of a list for which there is memory.
+/// Puts in each literal of a list.
+///
+/// # Errors
+/// If an allocation fails. The literals from that one on are not put in then.
 #[tactic(auto, using(qbf_core::proofs::Members::take_within))]
-pub(crate) fn put_each(seen: &mut SeenLits, lits: &[Lit])
+pub(crate) fn put_each(seen: &mut SeenLits, lits: &[Lit]) -> Result<(), AllocError>
     ensures { (l : Literal) → Has seen.new l → Has seen.old l ⊎ (l ∈ lits.now) }
 {
     for lit in lits {
-        seen.insert(*lit);
+        seen.put(*lit)?;
     }
+    Ok(())
 }
 
 /// A literal of a list whose negation is in a set.
@@ -393,5 +381,5 @@ pub(crate) fn surely_clean(
         return Ok(true);
     }
     seen.make_room(prefix)?;
-    Ok(set_if_clean(seen, lits))
+    set_if_clean(seen, lits)
 }

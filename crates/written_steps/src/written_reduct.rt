@@ -50,26 +50,42 @@ fn accepts_reduct_in_order<S: Side>(prefix: &Prefix, from: &[Lit], to: &[Lit]) -
 }
 
 /// Whether each literal of a list is seen to be in another one.
-fn surely_within(seen: &mut SeenLits, lits: &[Lit], whole: &[Lit]) -> bool
-    ensures { IsTrue result → lits.now ⊆ whole.now }
+///
+/// # Errors
+/// If an allocation fails.
+fn surely_within(seen: &mut SeenLits, lits: &[Lit], whole: &[Lit]) -> Result<bool, AllocError>
+    ensures { IfOk result (λ t. IsTrue t → lits.now ⊆ whole.now) }
 {
-    seen.set_each(whole);
-    lits.iter().all(|lit| seen.contains(*lit))
+    seen.set_each(whole)?;
+    Ok(lits.iter().all(|lit| seen.contains(*lit)))
 }
 
 /// Whether each literal of a list is seen to be in another one, or may be taken out.
-fn surely_covers(seen: &mut SeenLits, reducible: Reducible, from: &[Lit], to: &[Lit]) -> bool
-    ensures { IsTrue result → (l : Literal) → l ∈ from.now
-        → (l ∈ to.now) ⊎ TakesOut reducible.entry l.var }
+///
+/// # Errors
+/// If an allocation fails.
+fn surely_covers(
+    seen: &mut SeenLits,
+    reducible: Reducible,
+    from: &[Lit],
+    to: &[Lit],
+) -> Result<bool, AllocError>
+    ensures { IfOk result (λ t. IsTrue t → (l : Literal) → l ∈ from.now
+        → (l ∈ to.now) ⊎ TakesOut reducible.entry l.var) }
 {
-    if !set_if_clean(seen, to) {
-        return false;
+    if !set_if_clean(seen, to)? {
+        return Ok(false);
     }
-    from.iter()
-        .all(|lit| seen.contains(*lit) || reducible.has(lit.var()))
+    Ok(
+        from.iter()
+            .all(|lit| seen.contains(*lit) || reducible.has(lit.var())),
+    )
 }
 
 /// As `accepts_reduct`, by a set of literals, for which there is room.
+///
+/// # Errors
+/// If an allocation fails.
 #[cold]
 #[inline(never)]
 fn accepts_reduct_by_set<S: Side>(
@@ -77,13 +93,13 @@ fn accepts_reduct_by_set<S: Side>(
     prefix: &Prefix,
     from: &[Lit],
     to: &[Lit],
-) -> bool
+) -> Result<bool, AllocError>
     requires { IsFit prefix.now from.now }
-    ensures { IsAcceptedBy (reduct_conditions S.side prefix.now from.now to.now) prefix.now to.now
-        result }
+    ensures { IfOk result (IsAcceptedBy (reduct_conditions S.side prefix.now from.now to.now)
+        prefix.now to.now) }
 {
-    if !surely_within(seen, to, from) {
-        return false;
+    if !surely_within(seen, to, from)? {
+        return Ok(false);
     }
     // The literals that are left out have the other quantifier, so those that are kept say the
     // block.
@@ -110,5 +126,5 @@ pub fn accepts_reduct<S: Side>(
         return Ok(true);
     }
     seen.make_room(prefix)?;
-    Ok(accepts_reduct_by_set::<S>(seen, prefix, from, to))
+    accepts_reduct_by_set::<S>(seen, prefix, from, to)
 }

@@ -28,38 +28,52 @@ fn surely_apart(lits: &[Lit], var: Var) -> bool
 }
 
 /// Puts a literal into a set, unless it is one of the pivot. `false` if its negation is there, or
-/// if it is not there and may not be left out or there is no memory for it.
-fn put_left_out(seen: &mut SeenLits, reducible: Reducible, pivot: Var, lit: Lit) -> bool
+/// if it is not there and may not be left out.
+///
+/// # Errors
+/// If an allocation fails.
+fn put_left_out(
+    seen: &mut SeenLits,
+    reducible: Reducible,
+    pivot: Var,
+    lit: Lit,
+) -> Result<bool, AllocError>
     ensures put { IsPutBy seen.old seen.new (λ l. TakesOut reducible.entry l.var) }
-    ensures has { IsTrue result → (lit.var ≡ pivot) ⊎ Has seen.new lit }
+    ensures has { IfOk result (λ t. IsTrue t → (lit.var ≡ pivot) ⊎ Has seen.new lit) }
 {
     if lit.var().number() == pivot.number() {
-        return true;
+        return Ok(true);
     }
     if seen.contains(lit) {
-        return true;
+        return Ok(true);
     }
     if seen.contains(lit.negated()) {
-        return false;
+        return Ok(false);
     }
     if !reducible.has(lit.var()) {
-        return false;
+        return Ok(false);
     }
-    seen.insert(lit)
+    seen.put(lit)?;
+    Ok(true)
 }
 
 /// As `put_left_out`, for each literal of a list.
-fn put_each_left_out(seen: &mut SeenLits, reducible: Reducible, pivot: Var, lits: &[Lit]) -> bool
+fn put_each_left_out(
+    seen: &mut SeenLits,
+    reducible: Reducible,
+    pivot: Var,
+    lits: &[Lit],
+) -> Result<bool, AllocError>
     ensures put { IsPutBy seen.old seen.new (λ l. TakesOut reducible.entry l.var) }
-    ensures each { IsTrue result → (l : Literal) → l ∈ lits.now
-        → (l.var ≡ pivot) ⊎ Has seen.new l }
+    ensures each { IfOk result (λ t. IsTrue t → (l : Literal) → l ∈ lits.now
+        → (l.var ≡ pivot) ⊎ Has seen.new l) }
 {
     for lit in lits {
-        if !put_left_out(seen, reducible, pivot, *lit) {
-            return false;
+        if !put_left_out(seen, reducible, pivot, *lit)? {
+            return Ok(false);
         }
     }
-    true
+    Ok(true)
 }
 
 /// Whether each literal of a list is seen to be one of the pivot or in a set.
@@ -70,28 +84,38 @@ fn surely_has_each_but(seen: &SeenLits, lits: &[Lit], pivot: Var) -> bool
 }
 
 /// Whether the rests of two lists may be left out of their resolvent.
-fn leaves_out_rests<S: Side>(seen: &mut SeenLits, prefix: &Prefix, to: &[Lit], rests: Rests) -> bool
-    ensures { IsTrue result → (rules : Rules) (a b : List Literal)
+///
+/// # Errors
+/// If an allocation fails.
+fn leaves_out_rests<S: Side>(
+    seen: &mut SeenLits,
+    prefix: &Prefix,
+    to: &[Lit],
+    rests: Rests,
+) -> Result<bool, AllocError>
+    ensures { IfOk result (λ t. IsTrue t → (rules : Rules) (a b : List Literal)
         → IsResolvedBut a b to.now rests.entry.a.now rests.entry.b.now rests.entry.pivot
         → AllowsPivot rules S.side prefix.now rests.entry.pivot.var
-        → AllHold (resolvent_conditions rules S.side prefix.now a b to.now) }
+        → AllHold (resolvent_conditions rules S.side prefix.now a b to.now)) }
 {
     let pivot = rests.pivot.var();
     if !surely_apart(to, pivot) {
-        return false;
+        return Ok(false);
     }
-    if !set_if_clean(seen, to) {
-        return false;
+    if !set_if_clean(seen, to)? {
+        return Ok(false);
     }
     // If nothing is left out, no block matters.
     if surely_has_each_but(seen, rests.a, pivot) && surely_has_each_but(seen, rests.b, pivot) {
-        return true;
+        return Ok(true);
     }
     // The literals that are left out have the other quantifier, so those that are kept say the
     // block.
     let reducible = reducible_in(prefix, S::REDUCED, to);
-    put_each_left_out(seen, reducible, pivot, rests.a)
-        && put_each_left_out(seen, reducible, pivot, rests.b)
+    if !put_each_left_out(seen, reducible, pivot, rests.a)? {
+        return Ok(false);
+    }
+    put_each_left_out(seen, reducible, pivot, rests.b)
 }
 
 /// Whether each literal of a list is seen to be one of the pivot, in a set, or one that may be left
@@ -107,54 +131,66 @@ fn surely_covers_but(seen: &SeenLits, reducible: Reducible, pivot: Var, lits: &[
 
 /// As `leaves_out_rests`, for literals that may be left out of the antecedents before these are
 /// resolved.
+///
+/// # Errors
+/// If an allocation fails.
 #[cold]
 fn leaves_out_of_parents<S: Side>(
     seen: &mut SeenLits,
     prefix: &Prefix,
     step: Resolution,
     rests: Rests,
-) -> bool
+) -> Result<bool, AllocError>
     requires { IsResolvedBut step.a.now step.b.now step.to.now rests.a.now rests.b.now
         rests.pivot }
-    ensures { IsTrue result → (rules : Rules)
+    ensures { IfOk result (λ t. IsTrue t → (rules : Rules)
         → AllowsPivot rules S.side prefix.now rests.entry.pivot.var
         → AllHold (resolvent_conditions rules S.side prefix.now step.entry.a.now step.entry.b.now
-        step.entry.to.now) }
+        step.entry.to.now)) }
 {
     let pivot = rests.pivot.var();
     if !surely_apart(step.to, pivot) {
-        return false;
+        return Ok(false);
     }
-    if !set_if_clean(seen, step.to) {
-        return false;
+    if !set_if_clean(seen, step.to)? {
+        return Ok(false);
     }
     let (in_a, in_b) = reducible_in_parents::<S>(prefix, step.a, step.b, pivot);
     // The literals that the first one leaves out are put in. The second one is tested before that,
     // since it may not lack them for this reason.
     if !surely_covers_but(seen, in_b, pivot, rests.b) {
-        return false;
+        return Ok(false);
     }
-    put_each_left_out(seen, in_a, pivot, rests.a) && put_each_left_out(seen, in_b, pivot, rests.b)
+    if !put_each_left_out(seen, in_a, pivot, rests.a)? {
+        return Ok(false);
+    }
+    put_each_left_out(seen, in_b, pivot, rests.b)
 }
 
 /// Two lists, whatever their order, and a literal of one whose negation is in the other, if a third
 /// list has no other literals. `None` if that is not seen.
+///
+/// # Errors
+/// If an allocation fails.
 fn find_parents<'a>(
     seen: &mut SeenLits,
     a: &'a [Lit],
     b: &'a [Lit],
     to: &[Lit],
-) -> Option<Rests<'a>>
-    ensures { IfSome result (λ rests. IsResolvedBut a.now b.now to.now rests.a.now rests.b.now
-        rests.pivot) }
+) -> Result<Option<Rests<'a>>, AllocError>
+    ensures { IfOk result (λ found. IfSome found (λ rests. IsResolvedBut a.now b.now to.now
+        rests.a.now rests.b.now rests.pivot)) }
 {
-    seen.set_each(a);
-    let pivot = find_negated(seen, b)?.negated();
-    put_each(seen, b);
+    seen.set_each(a)?;
+    let Some(opposite) = find_negated(seen, b) else {
+        return Ok(None);
+    };
+    let pivot = opposite.negated();
+    put_each(seen, b)?;
     if !surely_has_each_but(seen, to, pivot.var()) {
-        return None;
+        return Ok(None);
     }
-    Some(Rests { pivot, a, b })
+    Ok(Some(Rests { pivot, a, b }))
 }
 
 /// Whether a number comes after another one, and is not a third.
@@ -219,10 +255,10 @@ fn follows_by_rests<S: Side>(
         }
     }
     seen.make_room(prefix)?;
-    if leaves_out_rests::<S>(seen, prefix, step.to, Rests { pivot, a, b }) {
+    if leaves_out_rests::<S>(seen, prefix, step.to, Rests { pivot, a, b })? {
         return Ok(true);
     }
-    Ok(leaves_out_of_parents::<S>(seen, prefix, step, Rests { pivot, a, b }))
+    leaves_out_of_parents::<S>(seen, prefix, step, Rests { pivot, a, b })
 }
 
 /// Accepts a step that follows from its antecedents, which are clean and bound, by resolution: as
@@ -251,10 +287,11 @@ pub fn accepts_resolvent<S: Side>(
         Some(rests) => rests,
         None => {
             seen.make_room(prefix)?;
-            let Some(rests) = find_parents(seen, a, b, to) else {
-                return Ok(false);
-            };
-            rests
+            match find_parents(seen, a, b, to) {
+                Ok(Some(rests)) => rests,
+                Ok(None) => return Ok(false),
+                Err(failed) => return Err(failed),
+            }
         }
     };
     if !is_pivot::<S>(prefix, rests.pivot.var(), rules) {

@@ -7,7 +7,7 @@ pub loop-position-preserved : goal.loop-position-preserved
 loop-position-preserved c =
     let i : ℕ = c.loop-position.position in
     let x : Literal = c.index-lits-position.result in
-    let put = rw c.note_repeated.ensures at c.insert.ensures in
+    let put = rw c.note_repeated.ensures at c.put.ensures in
     record {
       clean = clean_with c.args.lits.now i x c.loop-position-test.true c.index-lits-position.is
           (λ h. false≢true (sym c.if-contains.false ∙ c.contains.ensures.1
@@ -17,7 +17,7 @@ loop-position-preserved c =
         (λ h. take_more_in c.args.lits.now i x m c.loop-position-test.true c.index-lits-position.is (search rules)),
         (λ h. (put m).1 (elim (in_take_more c.args.lits.now i x m c.loop-position-test.true c.index-lits-position.is h) [
           | inl k ↦ inl ((c.loop-position.invariant.seen m).1 k)
-          | inr e ↦ inr (e, c.if-not-insert.false)
+          | inr e ↦ inr (e, search rules)
         ])),
       );
     }

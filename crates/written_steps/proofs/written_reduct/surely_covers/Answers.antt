@@ -8,6 +8,6 @@ returns c = λ t l h.
     let Is : Literal → Type 0 = λ m. Has c.set_if_clean.new.seen m ⊎ TakesOut c.args.reducible m.var in
     elim (each_within Is c.args.from.now (MatchBool-at_true _ _ t (cases_from_all _ _ _ Is (λ _. Unit {0}) c.all.ensures.ran
     (YieldsList-from_slice c.args.from.now cc) (λ x q k. search (rules, tests)) (λ x q k. tt))) l h) [
-      | inl has ↦ inl ((c.set_if_clean.ensures.members c.if-not-set_if_clean.false l).0 has)
+      | inl has ↦ inl ((c.in_ok-set_if_clean.ensures.members c.if-not-branch.false l).0 has)
       | inr may ↦ inr may
     ]

@@ -6,10 +6,10 @@ pub returns-clause-accepted : goal.returns-clause-accepted
 returns-clause-accepted c = λ t. record {
   follows = (
     (all_met c.args.formula.now c.args.lits.now c.set_if_clean.new.seen c.watch.new.self.lists.items
-        (λ l. (c.set_if_clean.ensures.members c.if-not-set_if_clean.false l).0) (c.in_ok-self.ensures t)),
+        (λ l. (c.in_ok-set_if_clean.ensures.members c.if-not-branch.false l).0) (c.in_ok-self.ensures t)),
     tt,
   );
-  clean = c.set_if_clean.ensures.clean c.if-not-set_if_clean.false;
+  clean = c.in_ok-set_if_clean.ensures.clean c.if-not-branch.false;
   bound = search rules;
 }
 
