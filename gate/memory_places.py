@@ -1,4 +1,4 @@
-"""Where the sources return out of memory, each with the reason why it may not stand there; and where they do not, although memory failed.
+"""Where the sources return out of memory, each with the reason why it may not stand there.
 
 A place is one of the words below where it is a value and no pattern, or an `Err` of a function that fails only out of memory, unless it hands
 on an error under its name, which was made elsewhere. It must stand
@@ -10,9 +10,6 @@ on an error under its name, which was made elsewhere. It must stand
 Calls that fail only out of memory: functions and methods of the crates whose error is AllocError, those listed here, and a `write_` call whose
 last argument is a local VecSink, which fails only out of memory. A method is found by the type of what stands before it. Anything that is not
 understood is refused, and so is a word under another name, as a default, as a name of ours, or from a macro. The files are laid out by `rt fmt`.
-
-The other way round, a failed allocation is handed on. An arm for it, or the block of an `if CALL.is_err()`, has one of the words, or the name
-that the pattern binds, or the status of out of memory; and no call that fails only out of memory is asked by another method of a result.
 """
 
 import re
@@ -27,10 +24,6 @@ AnyItem = TypeVar("AnyItem", bound=Item)
 WORDS = {"F9", "P9", "C5", "E3", "B2", "Memory", "NoMemory", "NO_MEMORY", "AllocError", "AllocFailed", "OutOfMemory"}
 # These are types, and stand in a pattern without a path.
 TYPES = {"AllocError", "AllocFailed"}
-# What an arm for a failed allocation may have in place of a word: the status 4, a text, what cannot be reached, a sink that fails only so.
-TELLS = re.compile(r"^\s*4,?$|^\s*\"\s*\",?$|\bunreachable!|\bSinkFault\b|\bwith_parts\(|\(memory, 0\)")
-# Methods of a result that lose its error.
-LOSES = re.compile(r"(?<=\))\s*\.\s*(?:is_ok|ok|unwrap_or\w*|map_err|or|or_else|is_ok_and|map_or\w*|iter|into_iter)\s*\(")
 OF_ALLOCATOR = {"Vec.push", "Vec.reserve", "IndexSet.insert", "IndexMap.insert", "Vec::from_slice", "Vec::with_capacity", "BufWriter::new"}
 # These hand back what they were given.
 GIVES_BACK = {"Formula.push_clause", "Trace.push_set", "Trace.push_step"}
@@ -41,9 +34,8 @@ HIDES = (
     (r"#\s*\[\s*default\s*\]\s*\w+", r"\w+$", "as a default"),
     (r"\bmacro_rules\b", "", "a macro may hide a word"),
 )
-# The call of a statement that a place may stand below, the call of any that is entered if an allocation failed, and that of a match.
+# The call of a statement that a place may stand below, and that of a match.
 ASKS = re.compile(r"if (.*)\.is_err\(\) \{|let Ok\([a-z_ ]+\) = (.*) else \{")
-MAY_ASK = re.compile(r"(?:.* )?if (.*)\.is_err\(\) \{|let Ok\(.*?\) = (.*) else \{|(?:.* )?if let Err\([a-z_]+\) = (.*) \{")
 MATCHES = re.compile(r"(?:.* )?match (.*) \{")
 SELF = re.compile(r"\((?:&(?:'\w+ )?|&?(?:'\w+ )?mut )?self\b")
 
@@ -76,15 +68,6 @@ class Place:
         return f"{self.file}:{self.line}: {self.why}" + (f": {self.text}" if self.text else "")
 
 
-def call_before(line: str, end: int) -> str:
-    """The text of the call that ends at a place of a line, with what it is called on."""
-    depth, place = 0, end
-    while place > 0 and (depth or line[place - 1] not in " (=!&{"):
-        depth += {")": 1, "(": -1}.get(line[place - 1], 0)
-        place -= 1
-    return line[place:end]
-
-
 class Code:
     """The lines of a source file without comments, texts, contracts, imports and inline tests."""
 
@@ -112,13 +95,6 @@ class Code:
     def holder(self, n: int) -> int:
         """The line that holds a line: the last one before it that stands further left."""
         return next((m for m in range(n - 1, -1, -1) if self.lines[m] and indent(self.lines[m]) < indent(self.lines[n])), 0)
-
-    def block(self, n: int) -> str:
-        """What stands further right below a line."""
-        end = n + 1
-        while end < len(self.lines) and not (self.lines[end] and indent(self.lines[end]) <= indent(self.lines[n])):
-            end += 1
-        return "\n".join(self.lines[n + 1 : end])
 
     def statement(self, n: int) -> str:
         """The text of the statement that ends on a line with an opening brace."""
@@ -192,40 +168,6 @@ class Memory:
             for item in source.items:
                 if item.name in WORDS and item.kind in ("struct", "enum", "trait", "type", "fn"):
                     yield Place(code.path, source.line(item.start), "", "a name of ours")
-
-    # ---- failed allocations that are not handed on
-
-    def lost(self) -> Iterator[Place]:
-        """Arms and blocks for a failed allocation that do not hand it on."""
-        for code in self.files:
-            for n, line in enumerate(code.lines):
-                if code.function_at[n] is None:
-                    continue
-                if self.is_for_memory(code, n) and not self.hands_on(code, n):
-                    yield Place(code.path, n + 1, line.strip(), "a failed allocation is not handed on")
-                for found in LOSES.finditer(line):
-                    if self.why_call(code, n, call_before(line, found.start())) == "":
-                        yield Place(code.path, n + 1, line.strip(), "a failed allocation may be lost")
-
-    def is_for_memory(self, code: Code, n: int) -> bool:
-        """Whether a line begins an arm or a block that is entered if an allocation failed."""
-        line = code.lines[n].strip()
-        if "=>" not in line:
-            return line.endswith("{") and self.why_asked(code, n, MAY_ASK) == ""
-        pattern = re.sub(r"\s*=>.*", "", line)
-        is_any = re.search(r"\bErr\([a-z_]+\)$|^_$", pattern) is not None
-        return has_word(pattern) or is_any and self.why_asked(code, code.holder(n), MATCHES) == ""
-
-    def hands_on(self, code: Code, n: int) -> bool:
-        """Whether an arm or a block has a word, the name that its pattern binds, or another way to tell it."""
-        line, function = code.lines[n], code.function_at[n]
-        pattern, arrow, body = line.partition("=>")
-        if line.endswith(("{", "(")):
-            body += "\n" + code.block(n)
-        bound = re.search(r"\bErr\(([a-z]\w*)\)", pattern if arrow else code.statement(n))
-        gives_back = function is not None and self.name_of(code, function) in GIVES_BACK and "Err(" in body
-        names_it = bound is not None and re.search(rf"\b{bound[1]}\b", body) is not None
-        return has_word(body) or gives_back or names_it or TELLS.search(body) is not None
 
     # ---- looking
 
@@ -314,8 +256,8 @@ class Memory:
             return "?"
         for m in range(n, code.source.line(function.open) - 1, -1):
             if found := re.match(rf"let (?:mut {receiver}|Ok\(mut {receiver}\)) = (.*)", code.lines[m].strip()):
-                return head_type(found[1])
-        found = re.search(rf"[(, ]{receiver}: ([^,)]*)", function.signature)
+                break
+        found = found or re.search(rf"[(, ]{receiver}: ([^,)]*)", function.signature)
         name = head_type(found[1]) if found else "?"
         # A type parameter stands for its bound.
         bound = re.search(rf"[<, ]{name}: ([A-Za-z]+)", function.signature) if re.fullmatch("[A-Z]", name) else None

@@ -5,7 +5,8 @@ of its size: the names in it with their `let`, assignments, patterns and constan
 same of each call of that function. Of a request in a loop, and of a call in a loop that fails only out of memory, the head of the loop is
 written down; and of a file that asks for memory its constant numbers.
 
-Which calls ask for memory is read off the signatures of the toolchain's libraries: those whose error may be that of the allocator.
+Which calls ask for memory is read off the signatures of the toolchain's libraries: those whose error may be that of the allocator. A crate
+that names no allocator, and no type or macro that takes memory, has no requests: what its functions are called there takes none.
 """
 
 import os
@@ -25,6 +26,8 @@ Request = tuple[str, str, str]  # the file, the function, and what it asks for
 # The libraries of the toolchain that the sources use.
 LIBRARIES = ("std", "std_alloc", "std_collections", "std_heap", "std_io", "core", "indexmap", "itoa")
 SIGNATURE = re.compile(r"\bpub\s+(?:const\s+|unsafe\s+)*fn\s+(\w+)\b([^;{]*?)(?=\b(?:requires|ensures|ghost)\b|[;{])")
+# One of these words is in each source that can ask for memory.
+OF_MEMORY = re.compile(r"\b(?:alloc|Alloc\w*|Global|Vec|Box|Rc|Arc|String|IndexMap|IndexSet)\b|\b(?:vec|format)!")
 # They make room for one more, and are noted in loops alone.
 ONE_MORE = {"push", "push_str", "insert", "insert_full"}
 # Methods of traits, whose signatures are not public by a word of their own.
@@ -67,7 +70,9 @@ class Requests:
     """What the functions of some sources ask for."""
 
     def __init__(self, sources: dict[str, Source], alone: Iterable[str]) -> None:
-        self.functions = [(path, one, source.body(one)) for path, source in sources.items() for one in source.functions if not one.is_test]
+        takes = {source.crate for source in sources.values() if OF_MEMORY.search(source.plain)}
+        taking = [(path, source) for path, source in sources.items() if source.crate in takes]
+        self.functions = [(path, one, source.body(one)) for path, source in taking for one in source.functions if not one.is_test]
         self.constants: dict[str, dict[str, str]] = {}
         for path, source in sources.items():
             for item in source.items:
