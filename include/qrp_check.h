@@ -7,7 +7,8 @@
  *     with it and in which the last empty step, and every step that it depends on, follows by the rules (QRP_NO_MEMORY aside);
  *     and then that formula is false if the trace says `r unsat`, and true if it says `r sat`, and `truth` says which.
  *
- *     qrp_strategy writes a circuit only if the trace is verified, and each run of the circuit wins for the winner of the formula.
+ *     qrp_strategy writes a circuit only if the trace is verified; each run of the circuit wins for the winner of the formula, and no
+ *     output depends on an input of its own block or of a later one.
  *
  * The proof relies on what this page asks of the caller, on the toolchain that proved and built the library, on the C compiler, `ar`,
  * `objcopy` and the linker that packed it, and on the C library: on its malloc, realloc and free, and on memcpy, memmove and
