@@ -8,7 +8,8 @@
     note: src/FILE:LINE:PLACE: `search` found no proof (`GOAL`)..      the same, in other words
     note: `GOAL` of proofs/PATH/Answers.antt may be false ..           the same, of a function without stored answers
     proofs/PATH/FILE:LINE:PLACE: error: TEXT        a stored answer that does not fit, or that no goal asks for
-    src/FILE:LINE:PLACE: error: TEXT, error ..      a fault of the sources themselves, so that nothing is said of any function
+    src/FILE:LINE:PLACE: error: TEXT, error ..      a fault of the sources themselves, so that nothing is said of any function; `error[KIND]`
+                                                    may stand there, too
 
 tests/gate/test-proofs has a text of each kind, as the toolchain printed it.
 """
@@ -45,10 +46,11 @@ class Said:
 
 @dataclass
 class Check:
-    """What a check says: of each function that it names, by its path, and faults of the sources."""
+    """What a check says: of each function that it names, by its path, and faults of the sources, with the names of the functions they are in."""
 
     functions: dict[str, Said]
     faults: list[str]
+    broken: dict[str, str] = field(default_factory=dict)
 
 
 def function_at(crate: Path, file: str, line: int) -> Optional[str]:
@@ -63,12 +65,12 @@ def function_at(crate: Path, file: str, line: int) -> Optional[str]:
 
 def read_check(text: str, function_at: Callable[[str, int], Optional[str]]) -> Check:
     """Reads what a check prints. An open goal counts for the function that `function_at` finds where the goal stands."""
-    found, misfits, faults = Check({}, []), [], []
+    found, misfits, faults, broken = Check({}, []), [], [], {}
     notes: list[tuple[str, bool, Optional[str]]] = []
     for line in text.splitlines():
         function = re.match(r"fn (\S+): (\w+ \w+|\w+)(.*)", line)
         note = re.match(r"note: (src/\S+?):(\d+):\d+: (?:it is not proved that .*|`\w+` found no proof )\(`([^`]+)`\)(.*)", line)
-        error = re.match(r"(?:\./)?((src|specs|proofs)/\S+?):(\d+):\d+: error: (.*)", line)
+        error = re.match(r"(?:\./)?((src|specs|proofs)/\S+?):(\d+):\d+: error(?:\[[\w-]+\])?: (.*)", line)
         if function:
             if function[2] in ("proved", "not proved", "no proof", "could not"):
                 found.functions[function[1]] = said_of(function[1], function[3], notes)
@@ -80,11 +82,13 @@ def read_check(text: str, function_at: Callable[[str, int], Optional[str]]) -> C
             misfits += [] if error[4].startswith("`no_answer`") else [f"{error[1]}:{error[3]}: {error[4]}"]
         elif error or re.match(r"error\b", line):
             faults.append(line[:200])
+            if name := function_at(error[1], int(error[3])) if error and error[2] == "src" else None:
+                broken.setdefault(name, line[:200])
     for path, said in found.functions.items():
         folder = "proofs/" + "/".join(path.split("::")[1:]) + "/"
         said.misfits = [misfit for misfit in misfits if misfit.startswith(folder)]
         said.false += [goal for goal in said.goals if f"`{goal}` of {folder}Answers.antt may be false" in text]
-    return Check(found.functions, faults)
+    return Check(found.functions, faults, broken)
 
 
 def said_of(path: str, words: str, notes: list[tuple[str, bool, Optional[str]]]) -> Said:

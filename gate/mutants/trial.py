@@ -19,7 +19,7 @@ from .bodies import Bodies, Body, right_name
 from .edits import BadEdit, Mutant, read_mutant
 from .prover import Prover
 from .rounds import MOST, Graph, calls, most_together, reached, rounds
-from .said import Said
+from .said import Check, Said
 from .witnesses import Run, Witness
 
 # How a mutant was refused.
@@ -172,8 +172,17 @@ class Trial:
         return keys
 
     def try_round(self, trial: CrateTrial, label: str, bodies: list[Body], _: int) -> None:
+        """Tries bodies together. Those that do not compile are named at once, and the others are tried again without them."""
         begun = time.monotonic()
         found = self.prover.check(trial.name, label, bodies)
+        while broken := {body.name: fault for body in bodies if (fault := fault_of(body, found)) and len(bodies) > 1}:
+            for body in [body for body in bodies if body.name in broken]:
+                trial.outcomes[body.is_answered, body.name] = Outcome(body, {}, [broken[body.name]])
+                print(f"{trial.name} {label}: {body.name} does not compile: {broken[body.name]}", flush=True)
+            bodies = [body for body in bodies if body.name not in broken]
+            if not bodies:
+                return
+            found = self.prover.check(trial.name, label, bodies)
         for body in bodies:
             trial.outcomes[body.is_answered, body.name] = Outcome(body, found.functions, found.faults)
         count = f"{len(bodies)} bodies" if len(bodies) > 1 else bodies[0].name
@@ -216,6 +225,11 @@ class Trial:
         for run, is_passed in zip(runs, passed):
             run.passed = is_passed
         print(f"{trial.name} {label}: {len(runs)} tests, {time.monotonic() - begun:.0f} s", flush=True)
+
+
+def fault_of(body: Body, found: Check) -> str:
+    """The fault of the sources that stands in a body, or nothing."""
+    return next((fault for name, fault in found.broken.items() if any(path.rsplit("::", 1)[1] == name for path in body.paths())), "")
 
 
 def judged(witness: Witness, verdict: Verdict) -> Verdict:
