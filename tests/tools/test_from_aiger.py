@@ -1,17 +1,23 @@
 """Tests tools/from-aiger. usage: tests/tools/test_from_aiger.py PROGRAM ..; tests/tools/test-tools calls it.
 
 Random circuits are written as ASCII and as binary AIGER. What their formulas say is compared with what a simulation of the circuit says of all
-values of the inputs; each formula is read by PROGRAM. Then come files that are wrong, and a circuit in Verilog, if yosys is there.
+values of the inputs, for random patterns, roles of constraints and choices of what is asked; and the names that the gates have with the values
+that the simulation gives to outputs and bad states. The simulation shares no code with the tool. Each formula is read by PROGRAM. Then come the
+questions that look like others, files that are wrong, and circuits in Verilog, if yosys is there.
 """
 
+import contextlib
+import gzip
+import io
 import itertools
 import os
 import random
+import re
+import runpy
 import shutil
 import subprocess
 import sys
 import tempfile
-from fnmatch import fnmatchcase
 from pathlib import Path
 
 ROOT = Path(__file__).resolve().parents[2]
@@ -21,8 +27,47 @@ from expect import expect, finish, skip  # noqa: E402
 from random_proofs import truth  # noqa: E402
 
 TOOL = ROOT / "tools" / "from-aiger"
-CIRCUITS = 120
-NAMES = ["a[0]", "a[1]", "b", "hole", "two words"]
+CIRCUITS = 1000
+ALONE = 60  # of them by processes of their own, and in both forms
+POOL = [
+    ["a[0]", "a[1]", "b"],
+    ["a[1]", "a[0]", "hole"],
+    ["two words", "a[0]", "a0"],
+    ["b", "a", "a[0]"],
+    ["a[2]", "a[1]", "two_words"],
+    ["*", "b", "a[0]"],
+]
+# What patterns mean, as one reads them.
+MEANT = {
+    "*": ["a[0]", "a[1]", "a[2]", "a", "a0", "b", "hole", "two words", "two_words"],
+    "a": ["a[0]", "a[1]", "a[2]"],
+    "a[0]": ["a[0]"],
+    "a[1]": ["a[1]"],
+    "a[1:0]": ["a[0]", "a[1]"],
+    "a[0:1]": ["a[0]", "a[1]"],
+    "a[2:1]": ["a[1]", "a[2]"],
+    "a[*]": ["a[0]", "a[1]", "a[2]"],
+    "a*": ["a[0]", "a[1]", "a[2]", "a0", "a"],
+    "*[0]": ["a[0]"],
+    "[abx]": ["a[0]", "a[1]", "a[2]", "a", "b"],
+    "a[[]0]": ["a[0]"],
+    "?": ["a[0]", "a[1]", "a[2]", "a", "b", "*"],
+    "h?le": ["hole"],
+    "two_words": ["two words"],
+    "two words": ["two words"],
+    "t*": ["two words", "two_words"],
+    "b": ["b"],
+}
+WHOLE = {"a[1:0]", "a[0:1]", "a[2:1]"}  # patterns that mean nothing if a bit is missing
+
+
+def meant_by(pattern, names):
+    """What a pattern means among these names."""
+    if pattern in names:  # a name wins alone
+        return {pattern}
+    if pattern in WHOLE and not set(MEANT[pattern]) <= set(names):
+        return set()
+    return set(MEANT[pattern]) & set(names)
 
 
 class Sample:
@@ -31,7 +76,7 @@ class Sample:
     def __init__(self, seed):
         pick = random.Random(seed)
         self.inputs, self.latches = pick.randint(1, 3), pick.choice((0, 0, 1, 2))
-        self.names = NAMES[: self.inputs] if pick.random() < 0.7 else None
+        self.names = pick.choice(POOL)[: self.inputs] if pick.random() < 0.7 else None
         first = 2 * (self.inputs + self.latches + 1)
         self.gates = []
         for literal in range(first, first + 2 * pick.randint(0, 6), 2):
@@ -39,7 +84,7 @@ class Sample:
         limit = first + 2 * len(self.gates)
         any_of = lambda most: [pick.randrange(limit) for _ in range(pick.randint(0, most))]
         self.next = [(pick.randrange(limit), pick.choice((0, 0, 1, None))) for _ in range(self.latches)]
-        self.outputs, self.bads, self.constraints = any_of(2), pick.choice(([], [], any_of(2))), any_of(1)
+        self.outputs, self.bads, self.constraints = any_of(2), pick.choice(([], any_of(2))), any_of(2)
         if not self.outputs and not self.bads:
             self.outputs = [pick.randrange(limit)]
         self.greatest = limit // 2 - 1
@@ -60,26 +105,44 @@ class Sample:
         data = "".join(line + "\n" for line in lines).encode()
         if is_binary:
             data += b"".join(coded(gate[0] - gate[1]) + coded(gate[1] - gate[2]) for gate in self.gates)
-        symbols = [f"i{place} {name}" for place, name in enumerate(self.names or [])] + (["c", "i9 a comment"] if self.names else [])
+        symbols = [f"i{place} {name}" for place, name in enumerate(self.names or [])]
+        symbols += [f"o{place} good{place}" for place in range(len(self.outputs))] if self.names else []
+        symbols += ["c", "i9 a comment"] if self.names else []
         return data + "".join(line + "\n" for line in symbols).encode()
 
     def input_names(self):
         return self.names or [f"i{place}" for place in range(self.inputs)]
 
-    def holds(self, steps, value_of):
-        """Whether the circuit does what it has to do in these steps, by the value of an input (name, step)."""
+    def output_name(self, place):
+        return f"good{place}" if self.names else f"o{place}"
+
+    def run(self, steps, value_of):
+        """The values of the literals in each step, by the value of an input (name, step)."""
         latches = {self.latch(place): bool(reset) if reset is not None else value_of(f"l{place}", 0) for place, (_, reset) in enumerate(self.next)}
         for step in range(steps):
             values = {0: False, **latches}
             values.update((2 * (place + 1), value_of(name, step)) for place, name in enumerate(self.input_names()))
-            value = lambda literal: values[literal & ~1] != bool(literal & 1)
+            value = lambda literal, values=values: values[literal & ~1] != bool(literal & 1)
             for gate, one, other in self.gates:
                 values[gate] = value(one) and value(other)
-            if not all(map(value, self.constraints)):
-                return True
-            if any(map(value, self.bads)) or not self.bads and not all(map(value, self.outputs)):
-                return False
+            yield value
             latches = {self.latch(place): value(following) for place, (following, _) in enumerate(self.next)}
+
+    def wanted(self, asked):
+        """What has to hold, each a literal and its value, by the names that are asked for; by none what is asked without them."""
+        outputs = [(self.output_name(place), literal, True) for place, literal in enumerate(self.outputs)]
+        bads = [(f"b{place}", literal, False) for place, literal in enumerate(self.bads)]
+        return [row for row in outputs + bads if row[0] in asked] if asked else bads or outputs
+
+    def holds(self, steps, value_of, asked, demanded):
+        """Whether the circuit does what it has to do in these steps, if these constraints have to hold and the others are assumed."""
+        for value in self.run(steps, value_of):
+            if not all(value(literal) for place, literal in enumerate(self.constraints) if place not in demanded):
+                return True
+            if not all(value(self.constraints[place]) for place in demanded):
+                return False
+            if not all(value(literal) == right for _, literal, right in self.wanted(asked)):
+                return False
         return True
 
 
@@ -102,29 +165,88 @@ def read_formula(text):
     return pairs, [list(map(int, line[:-1])) for line in lines if line[0] not in "ae"]
 
 
-def prefix_of(sample, steps, wanted, once):
-    """The inputs in the order in which they have to be bound: quantifier, name and step."""
-    free = [f"l{place}" for place, (_, reset) in enumerate(sample.next) if reset is None]
-    first = [("e", name, None) for name in [*free, *sample.input_names()] if name in once]
-    rows = [*wanted, ("a", "*")]
-    for step in range(steps):
-        names = [*(free if step == 0 else []), *sample.input_names()]
-        for place, (quantifier, pattern) in enumerate(rows):
-            for name in names:
-                base = name.partition("[")[0]
-                if name not in once and place == next(at for at, (_, other) in enumerate(rows) if fnmatchcase(name, other) or base == other):
-                    first.append((quantifier, name, step))
-    return first
+MAIN = runpy.run_path(str(TOOL), run_name="from_aiger")["main"]
 
 
-def is_true(sample, steps, prefix, values=None):
-    """Whether the question has the answer yes, by trying all values."""
-    values = values or {}
-    if len(values) == len(prefix):
-        return sample.holds(steps, lambda name, step: values.get((name, None), values.get((name, step))))
-    quantifier, *key = prefix[len(values)]
-    answers = (is_true(sample, steps, prefix, {**values, tuple(key): value}) for value in (False, True))
-    return any(answers) if quantifier == "e" else all(answers)
+def called(words):
+    """The same by a call in this process: the status, what it prints, and what it says."""
+    before, out, error = sys.argv, io.StringIO(), io.StringIO()
+    sys.argv = [str(TOOL), *map(str, words)]
+    try:
+        with contextlib.redirect_stdout(out), contextlib.redirect_stderr(error):
+            try:
+                return MAIN(), out.getvalue(), error.getvalue()
+            except Exception as fault:  # noqa: B902, a finding has its status
+                return getattr(fault, "status", f"{fault!r}"), out.getvalue(), error.getvalue() + str(fault)
+    finally:
+        sys.argv = before
+
+
+class Asked:
+    """A random question about a sample: the words of the command line, and what they mean."""
+
+    OPTIONS = {
+        "--exists": ("e", 0, ""),
+        "--forall": ("a", 0, ""),
+        "--once": ("e", 1, "one"),
+        "--once-forall": ("a", 1, "one"),
+        "--blind": ("e", 1, ""),
+    }
+
+    def __init__(self, sample, pick):
+        self.sample, self.steps = sample, pick.randint(1, 2) if sample.latches else 1
+        self.free = [f"l{place}" for place, (_, reset) in enumerate(sample.next) if reset is None]
+        self.words, self.rows, self.outer = ["--steps", str(self.steps)] if sample.latches else [], [], []
+        for _ in range(pick.randint(0, 3)):
+            self.bind(pick.choice([*self.OPTIONS, "--exists", "--forall"]), pick)
+        names = [row[0] for row in sample.wanted({*(sample.output_name(place) for place in range(2)), "b0", "b1"})]
+        self.asked = pick.sample(names, pick.randint(1, len(names))) if pick.random() < 0.3 else []
+        self.words += [word for name in self.asked for word in ("--ask", name)]
+        self.prefix = self.prefix_of()
+
+    def bind(self, option, pick):
+        names = self.sample.input_names()
+        quantifier, is_outer, one = self.OPTIONS[option]
+        found = [pattern for pattern in MEANT if meant_by(pattern, names)] if self.sample.names else [*names, "*", "i[0-9]"]
+        pattern = pick.choice(found + (self.free if pick.random() < 0.3 else []))
+        own = {pattern} if pattern in names or pattern in self.free else meant_by(pattern, names) if self.sample.names else set(names)
+        if pattern == "*" and "*" not in names and not is_outer:
+            own |= set(self.free)
+        self.words += [option, pattern]
+        (self.outer if is_outer else self.rows).append((quantifier, one, own))
+
+    def prefix_of(self):
+        """The inputs in the order in which they have to be bound: quantifier, name and step, None if it has one value for all steps."""
+        names, once = [*self.free, *self.sample.input_names()], set().union(*(own for _, one, own in self.outer if one))
+        key = lambda name, step: (name, None if name in once else step)
+        every = {key(name, step): None for step in range(self.steps) for name in names if step == 0 or name not in self.free}
+        found = []
+        for quantifier, _, own in self.outer:
+            found += [(quantifier, *one) for one in every if one[0] in own and one not in [row[1:] for row in found]]
+        for step in range(self.steps):
+            for quantifier, _, own in [*self.rows, ("a", "", set(names))]:
+                found += [(quantifier, *one) for one in every if one[0] in own and one[1] == step and one not in [row[1:] for row in found]]
+        return found
+
+    def value_of(self, values):
+        return lambda name, step: values[name, None] if (name, None) in values else values[name, step]
+
+    def is_true(self, demanded, values=()):
+        """Whether the answer is yes, by trying all values."""
+        if len(values) == len(self.prefix):
+            given = {row[1:]: value for row, value in zip(self.prefix, values)}
+            return self.sample.holds(self.steps, self.value_of(given), self.asked, demanded)
+        answers = (self.is_true(demanded, (*values, value)) for value in (False, True))
+        return any(answers) if self.prefix[len(values)][0] == "e" else all(answers)
+
+    def players(self, constraint):
+        """The quantifiers of the inputs that a constraint really depends on, by trying all values."""
+        tables = {}
+        for values in itertools.product((False, True), repeat=len(self.prefix)):
+            given = {row[1:]: value for row, value in zip(self.prefix, values)}
+            tables[values] = [value(self.sample.constraints[constraint]) for value in self.sample.run(self.steps, self.value_of(given))]
+        changed = lambda values, place: tuple(value != (place == at) for at, value in enumerate(values))
+        return {row[0] for place, row in enumerate(self.prefix) for values in tables if tables[values] != tables[changed(values, place)]}
 
 
 def shown(name, step, steps):
@@ -135,46 +257,117 @@ def shown(name, step, steps):
     return f"{base}@{step}{bracket}{rest}"
 
 
-def try_circuits(program, folder):
-    """The formula of a random circuit says what the simulation says, in both forms of the file."""
-    answers, dropped = set(), False
-    for seed in range(CIRCUITS):
-        sample, pick = Sample(seed), random.Random(-seed)
-        steps = pick.randint(1, 2) if sample.latches else 1
-        names = sample.input_names()
-        wanted = [(pick.choice("ea"), pick.choice([*names, "*"] + (["a"] if "a[0]" in names else []))) for _ in range(pick.randint(0, 2))]
-        wanted = [(quantifier, pattern.replace("[", "[[]") if "[" in pattern else pattern) for quantifier, pattern in wanted]
-        once = [pick.choice(names)] if seed % 5 == 0 else []
-        words = [word for quantifier, pattern in wanted for word in ({"e": "--exists", "a": "--forall"}[quantifier], pattern)]
-        words += [word for name in once for word in ("--once", name)] + (["--steps", str(steps)] if sample.latches else [])
-        texts = []
-        for is_binary in False, True:
-            path = folder / f"circuit{seed}"
-            path.write_bytes(sample.text(is_binary))
-            ended = run(*words, "--names", folder / "names", path)
-            texts.append((ended.returncode, ended.stdout, (folder / "names").read_text() if ended.returncode == 0 else ""))
-        expect(f"circuit {seed}: both forms give one formula", texts[0] == texts[1] and texts[0][0] == 0, (texts, ended.stderr))
-        formula = texts[0][1].decode()
-        (folder / "formula").write_text(formula)
+def formula_of(words, path, seed, folder):
+    """What the tool says of a circuit: the status, the formula, the names, and what it says. Of the first it is asked for both forms."""
+    words = [*words, "--names", folder / "names"]
+    if seed >= ALONE:
+        status, text, said = called([*words, path])
+    else:
+        ended = run(*words, path)
+        status, text, said = ended.returncode, ended.stdout.decode(), ended.stderr.decode()
+    return status, text, (folder / "names").read_text() if status == 0 else "", said
+
+
+def roles_of(question, seed, path, folder, pick):
+    """What is said of a circuit, with the constraints that have to hold. One that is neither assumed nor demanded by default is so by a word."""
+    words, count = question.words, len(question.sample.constraints)
+    if pick.random() < 0.2 and count:
+        option = pick.choice(("--assume", "--demand"))
+        return formula_of([*words, option, "c*"], path, seed, folder), set(range(count)) if option == "--demand" else set()
+    found = formula_of(words, path, seed, folder)
+    if found[0] == 1 and "which the existential player sets, and on" in found[3]:
+        constraint = int(re.search(r"the constraint c(\d) depends on", found[3])[1])
+        expect(f"circuit {seed}: a constraint that is refused has inputs of both players", {row[0] for row in question.prefix} == {"a", "e"}, found)
+        option = pick.choice(("--assume", "--demand"))
+        return formula_of([*words, option, "c*"], path, seed, folder), set(range(count)) if option == "--demand" else set()
+    demanded = {int(place) for place in re.findall(r"the constraint c(\d) depends on \S.* alone, which", found[3])}
+    for constraint in range(count):
+        players = question.players(constraint)
+        wrong = players & ({"a"} if constraint in demanded else {"e"})
+        expect(f"circuit {seed}: constraint {constraint} is that of its player", not wrong, (question.words, demanded, players, found))
+    return found, demanded
+
+
+def propagated(clauses, literals):
+    """What these clauses leave if some literals are true: the literals that are then true."""
+    true, is_new = set(literals), True
+    while is_new:
+        is_new = False
+        for clause in clauses:
+            left = [literal for literal in clause if -literal not in true]
+            if len(left) == 1 and left[0] not in true:
+                true.add(left[0])
+                is_new = True
+    return true
+
+
+def names_are_right(question, named, pairs, clauses, gates, pick):
+    """Whether each gate with a name has the value that the simulation gives to what the name says, for random values of the inputs."""
+    given = {row[1:]: pick.random() < 0.5 for row in question.prefix}
+    calls = {shown(name, step, question.steps): value for (name, step), value in given.items()}
+    inputs = [variable if calls[named[variable]] else -variable for _, variable in pairs if named.get(variable) in calls]
+    true = propagated(clauses[: 3 * gates], inputs)
+    steps = list(question.sample.run(question.steps, question.value_of(given)))
+    sample = question.sample
+    literals = {sample.output_name(place): literal for place, literal in enumerate(sample.outputs)}
+    literals.update((f"{kind}{place}", literal) for kind, own in (("b", sample.bads), ("c", sample.constraints)) for place, literal in enumerate(own))
+    wrong = []
+    for variable, name in named.items():
+        found = re.fullmatch(r"(not_)?([a-z]+\d)(?:_of_step_(\d))?'*", name)
+        if found and name not in calls and found[2] in literals:
+            value = steps[int(found[3] or 0)](literals[found[2]]) != bool(found[1])
+            wrong += [] if (variable if value else -variable) in true else [name]
+    return not wrong and len(true) == len(pairs), (wrong, named, given)
+
+
+def try_circuit(seed, program, folder, seen):
+    """The formula of a random circuit says what the simulation says, in both forms of the file, and its names are right."""
+    sample, pick = Sample(seed), random.Random(-seed)
+    question, path = Asked(sample, pick), folder / f"circuit{seed}"
+    path.write_bytes(sample.text(False))
+    (status, text, names, said), demanded = roles_of(question, seed, path, folder, pick)
+    if not expect(f"circuit {seed}: a formula {question.words}", status == 0, (said, sample.text(False))):
+        return
+    if seed < ALONE:
+        words = [word for name in ("--assume", "--demand") for word in (name, "c*")] if not sample.constraints else []
+        path.write_bytes(sample.text(True))
+        other = ("--demand", "c*") if demanded and len(demanded) == len(sample.constraints) else ("--assume", "c*")
+        words = other if sample.constraints and len(demanded) in (0, len(sample.constraints)) else ()
+        if words or not sample.constraints:
+            binary = formula_of([*question.words, *words], path, seed, folder)
+            expect(f"circuit {seed}: both forms give one formula", binary[1:3] == (text, names), (binary, text))
+        (folder / "formula").write_text(text)
         read = subprocess.run([program, "format", folder / "formula"], capture_output=True, check=False)
-        expect(f"circuit {seed}: a formula", read.returncode == 0, (read, formula))
-        pairs, clauses = read_formula(formula)
-        named = dict(line.split() for line in texts[0][2].splitlines())
-        whole = prefix_of(sample, steps, wanted, once)
-        used = {name for _, name, step in whole if shown(name, step, steps) in named.values()}
-        prefix = [row for row in whole if row[1] in used]  # an input is left out of all steps, or of none
-        dropped |= len(prefix) < len(whole)
-        found = [(quantifier, named.get(str(variable))) for quantifier, variable in pairs[: len(prefix)]]
-        expect(
-            f"circuit {seed}: the prefix {words}",
-            found == [(quantifier, shown(name, step, steps)) for quantifier, name, step in prefix],
-            (found, prefix),
-        )
-        expect(f"circuit {seed}: the rest are gates", all(quantifier == "e" for quantifier, _ in pairs[len(prefix) :]), pairs)
-        answer = is_true(sample, steps, whole)
-        answers.add(answer)
-        expect(f"circuit {seed}: what the formula says", truth(pairs, clauses) == answer, (words, formula))
-    expect("there are both answers, and inputs that are not used", answers == {True, False} and dropped)
+        expect(f"circuit {seed}: a formula for the program", read.returncode == 0, (read, text))
+    path.unlink()
+    pairs, clauses = read_formula(text)
+    named = {int(line.split()[0]): line.split()[1] for line in names.splitlines()}
+    used = {name for _, name, step in question.prefix if shown(name, step, question.steps) in named.values()}
+    prefix = [row for row in question.prefix if row[1] in used]  # an input is left out of all steps, or of none
+    seen["dropped"] |= len(prefix) < len(question.prefix)
+    found = [(quantifier, named.get(variable)) for quantifier, variable in pairs[: len(prefix)]]
+    wanted = [(quantifier, shown(name, step, question.steps)) for quantifier, name, step in prefix]
+    expect(f"circuit {seed}: the prefix {question.words}", blocks_in(found) == blocks_in(wanted), (found, wanted))
+    expect(f"circuit {seed}: the rest are gates", all(quantifier == "e" for quantifier, _ in pairs[len(prefix) :]), pairs)
+    answer = question.is_true(demanded)
+    seen["answers"].add((answer, bool(demanded), bool(question.asked), bool(question.outer)))
+    expect(f"circuit {seed}: what the formula says", truth(pairs, clauses) == answer, (question.words, text))
+    gates = int((re.search(r"exists (\d+) gates?:", said) or [0, 0])[1])
+    seen["names"] |= {name[:4] == "not_" for name in named.values()}
+    expect(f"circuit {seed}: the names", *names_are_right(question, named, pairs, clauses, gates, pick))
+
+
+def blocks_in(rows):
+    """The names by block: each a quantifier and a set."""
+    return [(quantifier, {name for _, name in own}) for quantifier, own in itertools.groupby(rows, key=lambda row: row[0])]
+
+
+def try_circuits(program, folder):
+    seen = {"answers": set(), "dropped": False, "names": set()}
+    for seed in range(CIRCUITS):
+        try_circuit(seed, program, folder, seen)
+    expect("there are all kinds of questions, both answers, and inputs that are not used", len(seen["answers"]) == 16 and seen["dropped"], seen)
+    expect("there are names of both signs", seen["names"] == {True, False})
 
 
 HALF = "aag 3 2 0 1 1\n2\n4\n6\n6 4 2\ni0 x\ni1 y\no0 both\n"
@@ -271,6 +464,159 @@ def try_text(folder):
         expect(f"the formula of {text!r}", (ended.returncode, formula) == (0, wanted) and said in ended.stderr.decode(), ended)
 
 
+NOT_BOTH = "aag 3 2 0 0 1 1 0\n2\n4\n7\n6 2 4\ni0 x\ni1 y\nb0 crash\n"
+# h[1:0], h0 and a: h[1] and h[0] have to be a, not a
+BUS = "aag 6 4 0 1 2\n2\n4\n6\n8\n12\n10 2 8\n12 11 6\ni0 h[0]\ni1 h[1]\ni2 h0\ni3 a\no0 ok\n"
+# a register without a first value, p <= p ^ x, which has to be 0 in step 2
+PARITY = "aag 8 1 3 0 4 1\n2\n4 14 4\n6 1\n8 6\n16\n10 4 2\n12 5 3\n14 13 11\n16 8 4\ni0 x\nl0 p\n"
+# the same by yosys: what x has to be in step 1 is the first value
+INITIAL = "aag 8 2 2 0 4 1\n2\n4\n6 4\n8 1\n16\n10 6 2\n12 7 3\n14 13 11\n16 14 8\ni0 x\ni1 init:p\n"
+# h must not be 3, and ok is h == 3
+ASSUMED = "aag 3 2 0 1 1 0 1\n2\n4\n6\n7\n6 2 4\ni0 h[0]\ni1 h[1]\no0 ok\nc0 allowed\n"
+MIXED = "aag 3 2 0 1 1 0 1\n2\n4\n2\n7\n6 2 4\ni0 h\ni1 a\no0 ok\nc0 allowed\n"
+TWO = "aag 3 3 0 2 0\n2\n4\n6\n2\n5\ni0 h\ni1 a\ni2 d\no0 ok\no1 debug[0]\n"
+
+
+def asked(text, *words, folder):
+    """The status, the formula without comments, the names, and what is said."""
+    path = folder / "asked"
+    path.write_text(text)
+    status, formula, names, said = formula_of(words, path, CIRCUITS, folder)
+    return status, "".join(line for line in formula.splitlines(True) if not line.startswith("c")), names, said.replace(f"{TOOL}: ", "")
+
+
+def answer_of(text, *words, folder):
+    """The answer to a question, by trying all values."""
+    return truth(*read_formula(asked(text, *words, folder=folder)[1]))
+
+
+def try_names(folder):
+    """Names say what is so: a gate is called by the bad state that it is, and clauses say that it is false."""
+    status, _, names, said = asked(NOT_BOTH, "--exists", "*", folder=folder)
+    expect("a bad state that is the negation of a gate", names == "1 x\n2 y\n3 not_crash\n" and "asked: crash is false\n" in said, (names, said))
+    names = asked(NOT_BOTH.replace("\n7\n", "\n6\n"), folder=folder)[2]
+    expect("a bad state that is a gate", names == "1 x\n2 y\n3 crash\n", names)
+    ended = called(["--exists", "*", folder / "asked"])
+    expect("the comment on a bad state", "c clause 4: crash is false\n" in ended[1], ended)
+    said = asked("aag 1 1 0 0 0 1\n2\n1\n", folder=folder)[3]
+    expect("a bad state that is true", "b0 cannot be false, whatever the inputs are" in said, said)
+    for name, wanted in (("  ", "i0"), ("my hole", "my_hole"), ("caf\u00e9", "caf\u00e9")):
+        path = folder / "named"
+        path.write_bytes(f"aag 1 1 0 1 0\n2\n2\ni0 {name}\n".encode())
+        for variables in {}, {"LC_ALL": "POSIX", "PYTHONUTF8": "0", "PYTHONCOERCECLOCALE": "0"}:
+            ended = run("--exists", wanted, "--names", folder / "names", path, env={**os.environ, **variables})
+            names, formula = (folder / "names").read_bytes().decode(), ended.stdout.decode()
+            expect(f"the symbol {name!r} {variables}", (ended.returncode, names) == (0, f"1 {wanted}\n") and "e 1 0" in formula, (ended, names))
+
+
+def try_patterns(folder):
+    """A pattern with brackets means bits, and a name wins alone."""
+    for pattern, sets in (
+        ("h[0]", "e 1 0\na 2 3 4 0\n"),
+        ("h[1:0]", "e 1 2 0\na 3 4 0\n"),
+        ("h[*]", "e 1 2 0\na 3 4 0\n"),
+        ("h*[1]", "e 1 0\na 2 3 4 0\n"),
+        ("h", "e 1 2 0\na 3 4 0\n"),
+        ("h0", "e 1 0\na 2 3 4 0\n"),
+        ("h*", "e 1 2 3 0\na 4 0\n"),
+        ("[ha]", "e 1 2 3 0\na 4 0\n"),
+    ):
+        text = (
+            BUS.replace("12 11 6", "12 11 4").replace("10 2 8", "10 6 8").replace("6 4 0 1 2", "6 4 0 4 2").replace("\n8\n12\n", "\n8\n12\n2\n4\n6\n")
+        )
+        found = asked(text, "--exists", pattern, folder=folder)[1].partition("e 5 ")[0].partition("\n")[2]
+        expect(f"the pattern {pattern}", found == sets, (pattern, found))
+    status, _, _, said = asked(BUS, "--exists", "h[2:0]", folder=folder)
+    expect("a slice of bits that are not there", status == 1 and "no input is called 'h[2]'; yosys counts the bits of a bus from 0" in said, said)
+    status, _, _, said = asked(BUS, "--exists", "h[7]", folder=folder)
+    expect("a bit that is not there", status == 1 and "no input is called 'h[7]'" in said, said)
+
+
+def try_order(folder):
+    """What is bound outermost: a plan of all steps, values of all steps for either player; and what is said if a plan may see a first value."""
+    words = ["--steps", "3"]
+    status, _, _, said = asked(PARITY, *words, "--exists", "x", folder=folder)
+    expect("a plan that may see a first value is told", "warning: x@1 comes after the first value of p, so it may depend on it" in said, said)
+    expect("a plan that sees a first value", answer_of(PARITY, *words, "--exists", "x", folder=folder))
+    said = asked(PARITY, *words, "--blind", "x", folder=folder)[3]
+    expect("a plan that sees nothing: the prefix", "exists x@0 x@1" in said.split("for all p@0")[0] and "warning" not in said, said)
+    expect("a plan that sees nothing", not answer_of(PARITY, *words, "--blind", "x", folder=folder))
+    expect("a pattern does not take a first value outermost", not answer_of(PARITY, *words, "--once", "*", folder=folder))
+    said = asked(PARITY, *words, "--exists", "*", folder=folder)[3]
+    expect("a first value that is existential is told", "warning: the first value of p is existential" in said, said)
+    said = asked(INITIAL, "--steps", "2", "--exists", "x", folder=folder)[3]
+    expect("an input of yosys is a first value", "warning: x@1 comes after the first value of init:p" in said, said)
+    for option, wanted in ("--exists", True), ("--blind", False):
+        expect(f"an input of yosys: {option}", answer_of(INITIAL, "--steps", "2", option, "x", folder=folder) == wanted)
+    for options, wanted in (
+        (["--once-forall", "h", "--exists", "a"], "for all h, exists a@0, exists a@1"),
+        (["--once", "a", "--once-forall", "h"], "exists a, for all h"),
+        (["--once-forall", "h", "--blind", "a"], "for all h, exists a@0 a@1"),
+    ):
+        text = "aag 5 2 1 1 2\n2\n4\n6 2\n10\n8 4 3\n10 9 7\ni0 h\ni1 a\n"
+        said = asked(text, "--steps", "2", *options, folder=folder)[3]
+        expect(f"outermost: {options}", said.startswith(wanted), said)
+
+
+def try_constraints(folder):
+    """A constraint that the existential player alone can break is this player's duty, and one of both players needs a word."""
+    status, _, _, said = asked(ASSUMED, "--exists", "h", folder=folder)
+    expect("a duty is told", "warning: the constraint allowed depends on h alone, which the existential player sets, so it has to hold" in said, said)
+    expect("a duty is no way out", not answer_of(ASSUMED, "--exists", "h", folder=folder))
+    expect("a constraint that is assumed is", answer_of(ASSUMED, "--exists", "h", "--assume", "allowed", folder=folder))
+    expect("a constraint on universal inputs is assumed", answer_of(ASSUMED.replace("\n6\n7\n", "\n6\n6\n"), folder=folder))
+    said = asked(ASSUMED, folder=folder)[3]
+    expect("what is assumed is told", "asked: ok is true; as long as allowed holds\n" in said, said)
+    status, formula, _, said = asked(MIXED, "--exists", "h", folder=folder)
+    wanted = "the constraint allowed depends on h, which the existential player sets, and on a, which the other one sets: say by --demand allowed"
+    expect("a constraint of both players is refused", status == 1 and not formula and wanted in said, said)
+    for option, wanted in ("--assume", True), ("--demand", False):
+        expect(f"a constraint of both players by {option}", answer_of(MIXED, "--exists", "h", option, "allowed", folder=folder) == wanted)
+    status, _, _, said = asked(MIXED, "--assume", "allowed", "--demand", "*", folder=folder)
+    expect("both roles", status == 1 and "the constraint allowed is both assumed and demanded" in said, said)
+
+
+def try_asked(folder):
+    """What is asked is chosen and named, and so is what is not."""
+    said = asked(TWO, folder=folder)[3]
+    expect("all outputs", "asked: ok debug are true\n" in said and "not asked" not in said, said)
+    said = asked(TWO, "--ask", "ok", folder=folder)[3]
+    expect("one output", "asked: ok is true\n" in said and "not asked: output debug" in said and "1 clause" in said, said)
+    text = TWO.replace("2 0\n2\n4", "2 0 1\n2\n4").replace("\n5\n", "\n5\n4\n")
+    said = asked(text, folder=folder)[3]
+    expect("outputs beside a bad state are told", "asked: b0 is false\n" in said and "not asked: outputs ok debug\n" in said, said)
+    said = asked(text, "--ask", "ok", "--ask", "b*", folder=folder)[3]
+    expect("an output and a bad state", "asked: ok is true, b0 is false\n" in said, said)
+    status, _, _, said = asked(text, "--ask", "no", folder=folder)
+    expect("what is not there", status == 1 and "no output or bad state is called 'no'; the output or bad states are b0, ok, debug[0]" in said, said)
+    said = asked("aag 1 1 0 1 0 0 0 1 1\n2\n2\n1\n2\n2\n", folder=folder)[3]
+    expect("justice and fairness beside an output", "not asked: 1 justice property, 1 fairness constraint\n" in said and "1 clause" in said, said)
+
+
+def try_summary(folder):
+    """The prefix shows bits of a bus that is split, and all of it if that is asked for."""
+    said = asked(BUS.replace("12 11 6", "12 11 4"), "--exists", "h[1]", folder=folder)[3]
+    expect("a bus that is split", said.startswith("exists h[1], for all h[0] a, "), said)
+    names = "".join(f"i{place} n{place}\n" for place in range(20))
+    text = f"aag 20 20 0 20 0\n{''.join(f'{2 * place + 2}{chr(10)}' for place in range(20)) * 2}{names}"
+    short, whole = (asked(text, *words, folder=folder)[3] for words in ([], ["--summary"]))
+    expect("many names", "n11 and 8 more:" in short and "n19:" in whole, (short, whole))
+    short, whole = (asked(LATCH, "--steps", "20", *words, folder=folder)[3] for words in ([], ["--summary"]))
+    expect("many blocks", "and 14 more blocks" in short and "i0@19:" in whole, (short, whole))
+
+
+def try_files(folder):
+    """A circuit may be compressed, and come by the standard input."""
+    path = folder / "half.gz"
+    path.write_bytes(gzip.compress(HALF.encode()))
+    ended, plain = run(path), run("-", input=HALF.encode())
+    expect("a compressed circuit", ended.returncode == 0 and b"p cnf 3 4" in ended.stdout, ended)
+    expect("the standard input", plain.returncode == 0 and plain.stdout.partition(b"p cnf")[2] == ended.stdout.partition(b"p cnf")[2], plain)
+    path.write_bytes(gzip.compress(HALF.encode())[:-6])
+    ended = run(path)
+    expect("a compressed circuit that is cut", ended.returncode == 2 and not ended.stdout and b"cannot be unpacked" in ended.stderr, ended)
+
+
 def try_steps(folder):
     """What is said of many steps is short."""
     path = folder / "latch"
@@ -313,9 +659,10 @@ def main():
         try_circuits(program, folder)
         try_wrong(folder)
         try_text(folder)
-        try_steps(folder)
+        for case in try_names, try_patterns, try_order, try_constraints, try_asked, try_summary, try_files, try_steps:
+            case(folder)
         try_verilog(folder)
-    return finish(653)
+    return finish(6015)
 
 
 if __name__ == "__main__":

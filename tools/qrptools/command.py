@@ -11,6 +11,7 @@ SIGKILL the folder is left; the process gets SIGKILL too, but not what it has st
 """
 
 import argparse
+import codecs
 import io
 import os
 import re
@@ -221,10 +222,18 @@ class Output(io.FileIO):
             raise NoOutput(f"the standard output cannot be written: {fault.strerror}") from fault
 
 
+def encoded(fault: UnicodeError) -> tuple[bytes, int]:
+    """What the encoding of the system has no bytes for: the byte that was read, or UTF-8."""
+    if not isinstance(fault, UnicodeEncodeError):
+        raise fault
+    return fault.object[fault.start : fault.end].encode("utf-8", "surrogateescape"), fault.end
+
+
 def open_output() -> io.TextIOWrapper:
     """Opens the standard output, for names of files with any bytes too."""
+    codecs.register_error("qrptools", encoded)
     raw = Output(1, "w", closefd=False)
-    return io.TextIOWrapper(io.BufferedWriter(raw), sys.getfilesystemencoding(), "surrogateescape", line_buffering=raw.isatty())
+    return io.TextIOWrapper(io.BufferedWriter(raw), sys.getfilesystemencoding(), "qrptools", line_buffering=raw.isatty())
 
 
 def fill_closed() -> bool:

@@ -83,6 +83,17 @@ class Source:
         except (OSError, ValueError):
             return 0, 0
 
+    def whole(self) -> bytes:
+        """All bytes, unpacked. The command ends if they cannot be unpacked to their end."""
+        if not self.unpacker:
+            return read_file(self.path)
+        with self.opened():
+            data = self.pipe.read() if self.pipe else b""
+            fault = self.complaint()
+        if fault:
+            raise unusable(f"{self.path} cannot be unpacked: {fault}")
+        return data
+
     def read(self) -> bytes:
         """All bytes, unpacked."""
         if not self.unpacker:

@@ -34,6 +34,7 @@ class Circuit:
         self.constraints: list[int] = []
         self.gates: dict[int, tuple[int, int]] = {}
         self.names: dict[tuple[str, int], str] = {}
+        self.passed_over: list[str] = []  # what else there is, which is about infinite runs
 
     def name(self, kind: str, place: int) -> str:
         """The name of an input, a latch or the like; without a symbol it is the kind and the place, as i0."""
@@ -119,6 +120,7 @@ class Reader:
         circuit.latches = [self.latch(place) for place in range(self.counts["L"])]
         for letter, literals, what in (("O", circuit.outputs, "output"), ("B", circuit.bads, "bad state"), ("C", circuit.constraints, "constraint")):
             literals += [self.literal(f"{what} {place}") for place in range(self.counts[letter])]
+        self.pass_over()
         self.read_gates()
         self.read_symbols()
         self.refuse_undefined()
@@ -134,7 +136,7 @@ class Reader:
         self.counts = dict(zip("ILOABCJF", [*rest, 0, 0, 0, 0]))
         if self.greatest > GREATEST or max(rest) > GREATEST:
             raise self.refuse(f"the header has a number above {GREATEST}")
-        if self.counts["J"] or self.counts["F"]:
+        if (self.counts["J"] or self.counts["F"]) and not self.counts["O"] and not self.counts["B"]:
             raise self.refuse("the circuit has justice or fairness properties, which are about infinite runs: no number of steps decides them")
         least = self.counts["I"] + self.counts["L"] + self.counts["A"]
         if self.greatest < least or self.is_binary and self.greatest != least:
@@ -153,6 +155,16 @@ class Reader:
         if reset and reset[0] not in (0, 1, literal):
             raise self.refuse(f"{what} begins with {reset[0]}, which is not 0, 1 or its literal {literal}")
         return Latch(literal, self.used(following), reset[0] if reset else 0)
+
+    def pass_over(self) -> None:
+        """Reads the justice properties, each of so many literals, and the fairness constraints. Nothing that is about steps needs them."""
+        sizes = [self.numbers(f"the size of justice property {place}", 1, 1)[0] for place in range(self.counts["J"])]
+        for letter, kind, counts in ("J", "j", sizes), ("F", "f", [1] * self.counts["F"]):
+            for place, count in enumerate(counts):
+                for _ in range(count):
+                    self.literal(f"{KINDS[kind]} {place}")
+            if self.counts[letter]:
+                self.circuit.passed_over.append(counted(self.counts[letter], KINDS[kind]).replace("propertys", "properties"))
 
     def read_gates(self) -> None:
         for place in range(self.counts["A"]):
@@ -193,7 +205,9 @@ class Reader:
                     raise self.refuse(f"there is no {KINDS[kind]} {place}")
                 if (kind, place) in self.circuit.names:
                     raise self.refuse(f"{KINDS[kind]} {place} has two symbols")
-                self.circuit.names[kind, place] = found[3].decode(errors="replace").strip()
+                name = found[3].decode(errors="surrogateescape").strip()
+                if name:  # one of blanks says nothing
+                    self.circuit.names[kind, place] = name
             line = self.text()
 
     def refuse_undefined(self) -> None:

@@ -5,59 +5,64 @@ that leave it the value that its inputs give (Tseitin 1968).
 """
 
 from collections.abc import Iterator
-from fnmatch import fnmatchcase
 from itertools import islice
+from typing import Optional
 
+from qrptools.circuits.patterns import LISTED, base_of, compressed, sizes_of, word_of
 from qrptools.circuits.unrolled import Input, Unrolled
-from qrptools.command import counted, finding
+from qrptools.command import counted
 from qrptools.formula import EXISTS, FOR_ALL
-from qrptools.names import BIT, NUMBER
+from qrptools.names import BIT
 
 LETTERS = {EXISTS: "e", FOR_ALL: "a"}
-LISTED, BLOCKS = 12, 6  # names and blocks in a message
+WORDS = {EXISTS: "exists", FOR_ALL: "for all"}
+BLOCKS = 6  # blocks in a message
 Block = tuple[str, list[int]]  # a quantifier, and literals or variables
 
 
-def base_of(name: str) -> str:
-    """The name of the bus that a bit belongs to, else the name."""
-    bit = BIT.fullmatch(name)
-    return bit[1] if bit else name
+class Prefix:
+    """How inputs are bound, by their names: what comes first, outermost in all steps, and what is bound in each step. What is in neither is
+    universal and comes last in its step."""
+
+    def __init__(self, outer: list[tuple[str, set[str]]], rows: list[tuple[str, set[str]]]) -> None:
+        self.outer, self.rows = outer, rows
+
+    def place(self, own: Input) -> tuple[int, int]:
+        """The place of the block of an input: the step, -1 for what is outermost, and the place in it."""
+        outer = first_with(own.name, self.outer)
+        if outer is not None:
+            return -1, outer
+        row = first_with(own.name, self.rows)
+        return own.step or 0, len(self.rows) if row is None else row
+
+    def quantifier(self, own: Input) -> str:
+        step, place = self.place(own)
+        rows = self.outer if step < 0 else self.rows
+        return rows[place][0] if place < len(rows) else FOR_ALL
 
 
-def is_meant(name: str, pattern: str) -> bool:
-    """Whether a pattern of the shell means this input: by its name, or by that of its bus."""
-    return any(called == pattern or fnmatchcase(called, pattern) for called in (name, base_of(name)))
+def first_with(name: str, rows: list[tuple[str, set[str]]]) -> Optional[int]:
+    return next((place for place, (_, names) in enumerate(rows) if name in names), None)
 
 
-def refuse_idle(patterns: list[str], names: list[str]) -> None:
-    """Ends the command if a pattern means no input."""
-    for pattern in patterns:
-        if not any(is_meant(name, pattern) for name in names):
-            known = ", ".join(names[:LISTED]) + (" .." if len(names) > LISTED else "")
-            raise finding(f"no input is called '{pattern}'; the inputs are {known or 'none'}")
-
-
-def blocks_of(inputs: dict[int, Input], wanted: list[tuple[str, str]]) -> list[Block]:
-    """The blocks of the inputs from the outermost on: each a quantifier and literals. First those of one value, and then in each step the
-    patterns in their order; inputs that no pattern means are universal and come last in their step."""
-    rows = [*wanted, (FOR_ALL, "*")]
-    found: dict[tuple[int, int], list[int]] = {}  # by the step and the place of the row; those of one value come before all
+def blocks_of(inputs: dict[int, Input], prefix: Prefix) -> list[Block]:
+    """The blocks of the inputs from the outermost on: each a quantifier and literals."""
+    found: dict[tuple[int, int], Block] = {}
     for literal, own in inputs.items():
-        place = next(place for place, (_, pattern) in enumerate(rows) if is_meant(own.name, pattern))
-        found.setdefault((-1, 0) if own.step is None else (own.step, place), []).append(literal)
-    return [(EXISTS if step < 0 else rows[place][0], literals) for (step, place), literals in sorted(found.items())]
+        found.setdefault(prefix.place(own), (prefix.quantifier(own), []))[1].append(literal)
+    return [block for _, block in sorted(found.items())]
 
 
 class Encoding:
     """The formula of what an unrolled circuit has to do. Inputs that it uses in no step, such as a clock, are left out."""
 
-    def __init__(self, unrolled: Unrolled, wanted: list[tuple[str, str]], steps: int) -> None:
-        self.unrolled, self.steps = unrolled, steps
+    def __init__(self, unrolled: Unrolled, prefix: Prefix) -> None:
+        self.unrolled, self.steps, self.prefix = unrolled, unrolled.steps, prefix
         needed = unrolled.needed()
         used = {own.name for literal, own in unrolled.inputs.items() if literal in needed}
         self.unused = list(dict.fromkeys(own.name for own in unrolled.inputs.values() if own.name not in used))
         self.inputs = {literal: own for literal, own in unrolled.inputs.items() if own.name in used}
-        self.blocks = blocks_of(self.inputs, wanted)
+        self.blocks = blocks_of(self.inputs, prefix)
         self.gates = [gate for gate in unrolled.gates if gate in needed]  # each after its inputs
         order = [literal for _, literals in self.blocks for literal in literals] + self.gates
         self.variables = {literal: number for number, literal in enumerate(order, 1)}
@@ -69,8 +74,8 @@ class Encoding:
         for gate in self.gates:
             output, (one, other) = self.literal(gate), map(self.literal, self.unrolled.gates[gate])
             yield from ([-output, one], [-output, other], [output, -one, -other])
-        for _, literals in self.unrolled.clauses:
-            yield list(map(self.literal, literals))
+        for clause in self.unrolled.clauses:
+            yield list(map(self.literal, clause.literals))
 
     def sets(self) -> list[Block]:
         """The quantifier sets, in which neighbours of one quantifier are one."""
@@ -86,52 +91,57 @@ class Encoding:
         clauses = list(self.clauses())
         first = len(clauses) - len(self.unrolled.clauses) + 1
         yield from (f"c {comment}\n" for comment in comments)
-        yield from (f"c clause {number}: {about} holds\n" for number, (about, _) in enumerate(self.unrolled.clauses, first))
+        yield from (f"c clause {number}: {clause.about()}\n" for number, clause in enumerate(self.unrolled.clauses, first))
         yield f"p cnf {len(self.variables)} {len(clauses)}\n"
         for quantifier, variables in self.sets():
             yield f"{LETTERS[quantifier]} {' '.join(map(str, variables))} 0\n"
-        for clause in clauses:
-            yield " ".join(map(str, [*clause, 0])) + "\n"
+        for numbers in clauses:
+            yield " ".join(map(str, [*numbers, 0])) + "\n"
 
     def names(self) -> Iterator[str]:
         """The lines of the file of names: those of the inputs, in a step with its number before the bit of a bus, and of the gates that what
-        has to hold is about alone, with not_ before the name if it is the negation of the gate."""
+        has to hold is about alone. A gate has the name of the output or the bad state that it is, with not_ before it if it is its negation."""
         seen: set[str] = set()
         called = [(literal, named(own, self.steps)) for literal, own in self.inputs.items()]
-        outputs = {literals[0] & ~1: (literals[0] & 1, "_".join(about.split())) for about, literals in self.unrolled.clauses if len(literals) == 1}
-        called += [(gate, plain(f"not_{name}" if negated else name)) for gate, (negated, name) in outputs.items() if gate in self.unrolled.gates]
+        called += [(gate, name) for gate, name in self.outputs().items() if gate in self.unrolled.gates]
         for literal, name in called:
             while name in seen:
                 name += "'"
             seen.add(name)
             yield f"{self.variables[literal]} {name}\n"
 
-    def summary(self) -> str:
-        """The prefix and what has to hold, in one line."""
-        words = {EXISTS: "exists", FOR_ALL: "for all"}
-        parts = [f"{words[quantifier]} {shown(names)}" for quantifier, names in islice(self.named_blocks(), BLOCKS)]
-        parts += [f"and {len(self.blocks) - BLOCKS} more blocks in this way"] if len(self.blocks) > BLOCKS else []
+    def outputs(self) -> dict[int, str]:
+        found = {}
+        for clause in self.unrolled.clauses:
+            if clause.literals == [clause.own]:
+                literal = clause.property.wanted(clause.own)  # that of the output or the bad state itself
+                name = "_".join(clause.name().split())
+                found[literal & ~1] = word_of(f"not_{name}" if literal & 1 else name)
+        return found
+
+    def summary(self, most: int = LISTED, blocks: int = BLOCKS) -> str:
+        """The prefix and what has to hold, in one line, with so many names of a block and so many blocks."""
+        parts = [f"{WORDS[quantifier]} {shown(names, most)}" for quantifier, names in islice(self.named_blocks(), blocks)]
+        parts += [f"and {len(self.blocks) - blocks} more blocks in this way"] if len(self.blocks) > blocks else []
         parts += [f"exists {counted(len(self.gates), 'gate')}"] if self.gates else []
         parts += [] if parts else ["no variable"]
         return f"{', '.join(parts)}: {counted(len(self.unrolled.clauses), 'clause')} of what has to hold"
 
     def named_blocks(self) -> Iterator[tuple[str, list[str]]]:
+        """The quantifier of each block and its names, with those of buses of which all bits that are used are in the block, in one step."""
+        sizes = sizes_of(dict.fromkeys(word_of(own.name) for own in self.inputs.values()))
+        whole = {base_of(named(own, self.steps)): sizes[base_of(word_of(own.name))] for own in self.inputs.values()}
         for quantifier, literals in self.blocks:
-            yield quantifier, list(dict.fromkeys(base_of(named(self.inputs[literal], self.steps)) for literal in literals))
+            yield quantifier, compressed([named(self.inputs[literal], self.steps) for literal in literals], whole)
 
 
-def shown(names: list[str]) -> str:
-    return " ".join(names[:LISTED]) + (f" and {len(names) - LISTED} more" if len(names) > LISTED else "")
-
-
-def plain(name: str) -> str:
-    """A name that a file of names takes."""
-    return f"_{name}" if name[0] in "-!~#" or NUMBER.fullmatch(name) else name
+def shown(names: list[str], most: int = LISTED) -> str:
+    return " ".join(names[:most]) + (f" and {len(names) - most} more" if len(names) > most else "")
 
 
 def named(own: Input, steps: int) -> str:
     """The name of an input as one word, that no other word of a reply can be."""
-    name = plain("_".join(own.name.split()))
+    name = word_of(own.name)
     if steps == 1 or own.step is None:
         return name
     bit = BIT.fullmatch(name)

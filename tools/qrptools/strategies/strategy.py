@@ -15,7 +15,7 @@ from qrptools.program import circuit_of, keep
 from qrptools.words import Fault
 
 OTHER = {EXISTS: FOR_ALL, FOR_ALL: EXISTS}
-NO_STRATEGY = {"L": "latches", "B": "bad states", "C": "constraints"}
+NO_STRATEGY = {"L": "latches", "B": "bad states", "C": "constraints", "J": "justice properties", "F": "fairness constraints"}
 
 
 class Files(NamedTuple):
