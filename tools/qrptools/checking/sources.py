@@ -14,10 +14,8 @@ from contextlib import contextmanager
 from typing import IO, BinaryIO, Callable, Optional
 
 from qrptools.command import not_read, read_file, started, unusable
-from qrptools.explaining.looks import MAGIC
+from qrptools.compressed import PACKAGES, is_unpacked, unpacker_of
 
-UNPACKERS = {"gzip": "gzip", "bzip2": "bzip2", "xz": "xz", "zstd": "zstd"}  # the program by what looks.py says
-PACKAGES = {"xz": "xz-utils"}  # of Debian, if it is not called as the program
 STANDARD_INPUT = "/dev/stdin"
 DESCRIPTOR = re.compile(r"/(?:dev|proc/self)/fd/([0-9]{1,6})")  # the name of a file that is open already, such as a pipe of the shell
 
@@ -34,7 +32,7 @@ class Source:
         self.file: Optional[BinaryIO] = None
         self.is_regular = self.has_mode(stat.S_ISREG)
         if self.is_regular:
-            self.unpacker = UNPACKERS.get(kind_of(self.path) or "")
+            self.unpacker = unpacker_of(self.path)
 
     def has_mode(self, test: Callable[[int], bool]) -> bool:
         try:
@@ -72,7 +70,7 @@ class Source:
             return None
         said = self.errors.read().decode(errors="replace").strip().split("\n")
         status = self.process.wait()
-        return None if status in (0, -13, 141) else said[-1] or f"{self.unpacker} ended with status {status}"
+        return None if is_unpacked(self.unpacker or "", status) else said[-1] or f"{self.unpacker} ended with status {status}"
 
     def place(self, program: int) -> tuple[int, int]:
         """How many bytes of the file were read so far, by this process of the program, and how many it has; zeros if that is not known."""
@@ -100,16 +98,6 @@ class Source:
             return read_file(self.path)
         with self.opened():
             return self.pipe.read() if self.pipe else b""
-
-
-def kind_of(path: str) -> Optional[str]:
-    """How a file is compressed by its first bytes, None if it is not, or cannot be read."""
-    try:
-        with open(path, "rb") as file:
-            head = file.read(8)
-    except OSError:
-        return None
-    return next((kind for magic, kind in MAGIC if head.startswith(magic)), None)
 
 
 def place_of(process: int, path: str) -> Optional[int]:

@@ -3,11 +3,10 @@
 import re
 from typing import Optional
 
+from qrptools.compressed import COMPRESSED
+
 MAGIC = [
-    (b"\x1f\x8b", "gzip"),
-    (b"BZh", "bzip2"),
-    (b"\xfd7zXZ", "xz"),
-    (b"\x28\xb5\x2f\xfd", "zstd"),
+    *COMPRESSED,
     (b"PK\x03\x04", "zip"),
     (b"\x7fELF", "program"),
     (b"\xef\xbb\xbf", "mark"),
@@ -18,9 +17,12 @@ MAGIC = [
     (b"aig ", "AIGER"),
     (b"aag ", "AIGER"),
     (b"<", "page"),
+    (b"version https://git-lfs.github.com/", "git-lfs"),
 ]
+TAR = slice(257, 262)  # where an archive of tar has the word
+STAMPED = re.compile(rb"^(?:[\[(0-9][^\r\n]*?[ \t\])>|:])p[ \t]+(cnf|qrp)[ \t]+[0-9]+[ \t]+[0-9]+[ \t]*\r?$", re.MULTILINE)  # a header after a time
 # of these no line is shown, since they are no texts
-NO_TEXTS = {"gzip", "bzip2", "xz", "zstd", "zip", "program", "UTF-16", "UTF-16LE", "binary QRP", "zeros", "no text", "odd"}
+NO_TEXTS = {"gzip", "bzip2", "xz", "zstd", "zip", "tar", "program", "UTF-16", "UTF-16LE", "binary QRP", "zeros", "no text", "odd"}
 HEADER = re.compile(rb"^[ \t]*p[ \t]+(cnf|qrp|bqrp)\b[^\r\n]*", re.MULTILINE)
 STEP = re.compile(rb"[ae]( \d+)* 0\s*|\d+( -?[1-9]\d*)* 0( \d+)* 0\s*|r \w+\s*")
 PROOF = re.compile(rb"(d )?-?[1-9]\d*( -?[1-9]\d*)* 0\s*|(d )?0\s*")
@@ -39,11 +41,16 @@ def looks(data: bytes, wanted: str) -> Look:
     for magic, kind in MAGIC:
         if head.startswith(magic):
             return kind, None
+    if head[TAR] == b"ustar":
+        return "tar", None
     if b"\n" not in data and COMMENT_AFTER_RETURN.search(data):  # a comment goes on to byte 10
         return "returns", data.count(b"\r")
     header = HEADER.search(head)
     if header:
         return looks_with_header(head, header, wanted)
+    stamped = STAMPED.search(head)
+    if stamped and stamped[1].decode() == wanted:
+        return "stamps", head.count(b"\n", 0, stamped.start()) + 1
     if b"\0" in head[:4096]:
         return looks_with_zeros(head[:4096], wanted), None
     return looks_without_header(head, wanted), None

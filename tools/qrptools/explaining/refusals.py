@@ -75,14 +75,44 @@ def cause_of_result(fault: Fault) -> str:
     return "answer" if word == b"s" else "damaged"
 
 
-def cause_of_word(fault: Fault, _data: bytes) -> Optional[str]:
+def cause_of_word(fault: Fault, data: bytes) -> Optional[str]:
     """Which of the causes of F3 a word points to."""
     word = word_of(fault)
     if fault.index == 0 and word in (b"a", b"e"):
-        return "open"
+        return cause_of_late_set(fault, data)
     if fault.index == 0 and word in (b"A", b"E"):
         return "capital"
     return "dependencies" if fault.index == 0 and word == b"d" and fault.known["inside"] == BEFORE_CLAUSES else None
+
+
+def cause_of_late_set(fault: Fault, data: bytes) -> str:
+    """Why a quantifier set is not allowed: what comes before it is open, or has a 0 too many, or is a clause that is closed."""
+    if fault.known["inside"] != "between clauses":
+        return "open"
+    if header_has_more(data):
+        return "header"
+    before = next(empty_clauses(data), fault.line)
+    return "zero" if before < fault.line else "prenex"
+
+
+def header_has_more(data: bytes) -> bool:
+    """Whether words follow the numbers of the header in its line."""
+    return bool(re.search(rb"^[ \t]*p[ \t]+cnf[ \t]+[0-9]+[ \t]+[0-9]+[ \t]+[^ \t\r\n]", data, re.MULTILINE))
+
+
+STAMP = re.compile(rb"[\[(]|[0-9]+[-/:.][0-9]")
+
+
+def cause_of_trace_word(fault: Fault, data: bytes) -> Optional[str]:
+    """Which of the causes of P3 a word points to: a message begins a line, and what is damaged has digits or stands in the middle."""
+    word = word_of(fault)
+    if odd_zeros(fault, data):
+        return "zeros"
+    if fault.index == 0 and word in (b"a", b"e"):
+        return "order"
+    if fault.index == 0 and STAMP.match(word):
+        return "stamps"
+    return "damaged" if fault.index or re.search(rb"[0-9\0]", word) else None
 
 
 def cause_of_freedom(fault: Fault, data: bytes) -> str:
@@ -98,7 +128,8 @@ CAUSES: dict[str, Callable[[Fault, bytes], Optional[str]]] = {
     "F6": cause_of_freedom,
     "F7": lambda fault, data: "open" if open_line_of(fault, data) else None,
     "F8": lambda fault, data: "empty" if fault.index is not None and any(empty_clauses(data)) else None,
-    **dict.fromkeys(("P3", "P4", "P5", "P6"), lambda fault, data: "zeros" if odd_zeros(fault, data) else None),
+    "P3": cause_of_trace_word,
+    **dict.fromkeys(("P4", "P5", "P6"), lambda fault, data: "zeros" if odd_zeros(fault, data) else None),
 }
 
 
@@ -182,10 +213,22 @@ FIRST_WORDS = {
 }
 
 
-def wrong_word(fault: Fault, _data: bytes) -> list[str]:
+# Why a quantifier set comes too late, by its cause.
+LATE_SETS = {
+    "prenex": "The clauses before it are closed: so the formula is not prenex, with all quantifiers before the clauses.",
+    "header": "The header has more than two numbers, and what follows them is read as a clause.",
+    "zero": "An empty clause comes before it: a 0 too many closes it.",
+    "order": "The steps before it are closed: the lines seem to be in another order than they were written.",
+}
+
+
+def wrong_word(fault: Fault, data: bytes) -> list[str]:
     word, inside = word_of(fault), fault.known["inside"]
     sentences = [f"'{shown(word)}' is not allowed {BETWEEN.get(inside, f'in {inside}, a list of numbers that 0 closes.')}"]
-    if word in (b"a", b"e") and fault.index == 0:
+    cause = likely_cause(fault, data)
+    if cause in LATE_SETS:
+        sentences.append(LATE_SETS[cause])
+    elif word in (b"a", b"e") and fault.index == 0:
         sentences.append(f"Quantifier sets come before all {'clauses' if fault.name == 'F3' else 'steps'}, and 0 closes each list: is a 0 missing?")
     elif word in (b"A", b"E") and fault.index == 0:
         sentences.append("The quantifiers are small letters.")
@@ -278,10 +321,17 @@ def wrong_count(fault: Fault, data: bytes) -> list[str]:
 
 
 def lines_of_clauses(data: bytes) -> Iterator[tuple[int, list[bytes]]]:
-    """The lines after the header and the quantifier sets, with their numbers."""
+    """The lines of the clauses, with their numbers: what comes after the header and the quantifier sets. A set goes on up to its 0, also in
+    later lines."""
+    is_set = False
     for number, text in enumerate(data.splitlines(), 1):
         words = text.split()
-        if words and words[0][:1] not in (b"c", b"p", b"a", b"e"):
+        if not words or words[0][:1] in (b"c", b"p"):
+            continue
+        while words and (is_set or words[0] in (b"a", b"e")):
+            closed = next((place for place, word in enumerate(words, 1) if not word.strip(b"0")), None)
+            is_set, words = closed is None, words[closed:] if closed else []
+        if words:
             yield number, words
 
 

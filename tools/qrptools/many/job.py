@@ -13,9 +13,11 @@ import signal
 import sys
 import time
 
+from qrptools.compressed import is_unpacked, unpacker_of
 from qrptools.signals import adopt_orphans, end_with_parent, held_signals, kill_group, take_signals
 
-TIMEOUT = 124
+TIMEOUT, DEVICE = 124, 3
+LAST = 10.0  # seconds that what unpacks has to end after its reader
 NEVER = float("inf")
 LIMITED = ["/bin/sh", "-c", 'ulimit -v "$0" && exec "$@"']  # a limit of kilobytes, and the program in the place of the shell
 IGNORED = [signal.SIGPIPE, signal.SIGXFSZ]  # by Python
@@ -75,26 +77,72 @@ class Checker:
         """Runs the program once and prints the row: index, line, status, seconds, those of the processor, and peak memory. The number of its
         process is told as soon as there is one."""
         index, formula, trace, flag = fields
-        words = [*self.words, *([] if flag == "-" else [flag]), at_hand(formula), at_hand(trace)]
         began = time.monotonic()
         until = began + self.seconds if self.seconds else NEVER
+        sources = [Source(at_hand(formula)), Source(at_hand(trace))]
+        words = [*self.words, *([] if flag == "-" else [flag]), *(source.name for source in sources)]
         process, (reading, writing) = 0, os.pipe()
         try:
             with held_signals():
                 process = started(words, writing)
             os.write(told, b"%d" % process)
             os.close(writing)
+            for source in sources:
+                source.close_pipe()
             printed = read_until(reading, until)
             in_time = printed is not None and is_over(process, until)
             os.close(reading)
         finally:
             if process:
                 status, used = end(process)
+            damaged = [source.ended() for source in sources]
         line, status = result(printed if in_time else None, status)
+        if in_time and any(damaged) and status in (0, 1):  # a file that cannot be read to its end
+            line, status = f"DEVICE {'formula' if damaged[0] else 'trace'}", DEVICE
         took = time.monotonic() - began
         row = (index, line, str(status), f"{took:.3f}", f"{used.ru_utime + used.ru_stime:.3f}", str(used.ru_maxrss))
         sys.stdout.buffer.write("\t".join(row).encode() + b"\n")
         sys.stdout.buffer.flush()
+
+
+class Source:
+    """A file of a check. One that is compressed is unpacked by a process into a pipe, which the program reads."""
+
+    def __init__(self, path: str) -> None:
+        self.name, self.pipe, self.process, self.status = path, -1, 0, 0
+        self.unpacker = unpacker_of(path)
+        if self.unpacker:
+            reading, writing = os.pipe()
+            actions = [
+                (os.POSIX_SPAWN_OPEN, 0, path, os.O_RDONLY, 0),
+                (os.POSIX_SPAWN_DUP2, writing, 1),
+                (os.POSIX_SPAWN_OPEN, 2, os.devnull, os.O_WRONLY, 0),
+            ]
+            with held_signals():
+                self.process = os.posix_spawnp(
+                    self.unpacker, [self.unpacker, "-dc"], os.environ, file_actions=actions, setpgroup=0, setsigdef=IGNORED
+                )
+            os.close(writing)
+            os.set_inheritable(reading, True)
+            self.name, self.pipe = f"/dev/fd/{reading}", reading
+
+    def close_pipe(self) -> None:
+        """Lets the program be the only reader, so that what unpacks ends with it."""
+        if self.pipe >= 0:
+            os.close(self.pipe)
+            self.pipe = -1
+
+    def ended(self) -> bool:
+        """Ends what unpacks, and says whether the file could not be unpacked."""
+        self.close_pipe()
+        if not self.process:
+            return False
+        until = time.monotonic() + LAST
+        if not is_over(self.process, until):
+            os.kill(self.process, signal.SIGKILL)
+        _, ended = os.waitpid(self.process, 0)
+        status = os.waitstatus_to_exitcode(ended)
+        return status != -signal.SIGKILL and not is_unpacked(self.unpacker or "", status)
 
 
 def started(words: list[str], output: int) -> int:

@@ -3,7 +3,9 @@
 import json
 import os
 from collections import Counter
+from collections.abc import Iterator
 from typing import NamedTuple
+from xml.sax.saxutils import escape, quoteattr
 
 from qrptools.command import read_file, unusable, version
 
@@ -39,13 +41,14 @@ def lines_of(data: bytes) -> list[str]:
     return [os.fsdecode(line) for line in data.replace(b"\r\n", b"\n").split(b"\n")]
 
 
-def read_list(path: str) -> list[Pair]:
-    """The lines of a list as pairs."""
-    pairs = []
+def read_list(path: str) -> tuple[list[Pair], int]:
+    """The lines of a list as pairs, and how many are passed over since they begin with #."""
+    pairs, passed_over = [], 0
     for number, line in enumerate(lines_of(read_file(path, "the list")), 1):
+        passed_over += line.startswith("#")
         if line.strip() and not line.startswith("#"):
             pairs.append(pair_of(line.split("\t"), f"line {number} of {path}"))
-    return pairs
+    return pairs, passed_over
 
 
 def pair_of(fields: list[str], where: str) -> Pair:
@@ -90,6 +93,39 @@ def json_row(pair: Pair, result: Result) -> str:
             "version": version(),
         }
     )
+
+
+def junit(name: str, pairs: list[Pair], results: list[Result]) -> Iterator[str]:
+    """The lines of a report as JUnit writes it: a proof that is not verified, or not of the truth that is expected, is a failure, and a
+    lost one an error."""
+    lost = sum(result.status == str(LOST) for result in results)
+    failures = sum(not is_as_expected(pair, result) for pair, result in zip(pairs, results)) - lost
+    took = sum(float(result.seconds) for result in results if result.seconds != "-")
+    counts = f'tests="{len(pairs)}" failures="{failures}" errors="{lost}" skipped="0" time="{took:.3f}"'
+    yield '<?xml version="1.0" encoding="UTF-8"?>'
+    yield f"<testsuites {counts}>"
+    yield f"  <testsuite name={attribute(name)} {counts}>"
+    for pair, result in zip(pairs, results):
+        seconds = result.seconds if result.seconds != "-" else "0"
+        case = f'<testcase classname={attribute(name)} name={attribute(pair.name)} time="{seconds}"'
+        if is_as_expected(pair, result):
+            yield f"    {case}/>"
+        else:
+            kind = "error" if result.status == str(LOST) else "failure"
+            said = result.line if not is_verified(result) else f"{result.line}, and expected is {pair.expected}"
+            text = escape(printable(f"{pair.formula} {pair.trace}: status {result.status}"))
+            yield f"    {case}><{kind} message={attribute(said)}>{text}</{kind}></testcase>"
+    yield "  </testsuite>"
+    yield "</testsuites>"
+
+
+def attribute(text: str) -> str:
+    return quoteattr(printable(text))
+
+
+def printable(text: str) -> str:
+    """A text without what XML has no way to write."""
+    return "".join(letter if letter.isprintable() else f"\\x{ord(letter):02x}" for letter in os.fsencode(text).decode(errors="backslashreplace"))
 
 
 def summary(pairs: list[Pair], results: list[Result]) -> str:
