@@ -96,7 +96,7 @@ def try_rows(program, rows):
         numbered = run(EXPLAIN, *flags, formula, trace, number, program="/nonexistent")
         expect(f"{flag} {line}, by its number", numbered.returncode == 0 and numbered.stdout in shown.stdout, numbered)
         if fault == "S3":
-            drawn = run(DRAW, formula, trace, program=program)
+            drawn = run(DRAW, "--force", formula, trace, program=program)
             nodes, edges = read_graph(f"{flag} {line}, drawn", drawn.stdout)
             expect(f"{flag} {line}: every step drawn but the last is needed", {n for n, _ in edges} == {n for n, _ in nodes[:-1]}, drawn)
     expect("the rows have all faults of steps", seen == FAULTS, sorted(FAULTS - seen))
@@ -234,7 +234,8 @@ def try_places():
             expect(f"places: {name}", found == {variable: all_places.get(variable, UNBOUND) for variable in variables}, found)
 
 
-NODE = re.compile(r"    (\d+) \[shape=(box|ellipse), label=<<B>\1</B><BR/>(?:[-0-9]|&#160;|<U>|</U>|<BR/>|empty (?:clause|cube))+>\];")
+NODE = re.compile(r"    (\d+) \[shape=(box|ellipse), label=<<B>\1</B><BR/>(?:[-0-9]|<I>&#160;</I>|<U>|</U>|<BR/>|empty (?:clause|cube))+>\];")
+STUB = re.compile(r"    (\d+) \[shape=plaintext, label=<\.\.\. <B>\1</B>>\];")
 EDGE = re.compile(r'    (\d+) -> (\d+) \[label="(?:-?\d+)?(?:, )?(?:reduced)?"\];')
 TEXT = re.compile(r"    (\d+) \[shape=\w+, label=<<B>\d+</B><BR/>(.*)>\];")
 LABEL = re.compile(r'    (\d+) -> (\d+) \[label="(.*)"\];')
@@ -267,9 +268,9 @@ def try_marks(program):
     for formula, trace in [(f / f"{f.name}.qdimacs", f / f"{f.name}.trimmed.qrp") for f in EXAMPLES]:
         steps = [line.split() for line in trace.read_text().splitlines() if line[0].isdigit()]
         texts, labels = marks_of(formula, steps)
-        drawn = run(DRAW, formula, trace, program=program)
+        drawn = run(DRAW, "--force", formula, trace, program=program)
         found = {
-            line[1]: [word for word in re.split(r"&#160;| |<BR/>", line[2]) if word]
+            line[1]: [word for word in re.split(r"<I>&#160;</I>| |<BR/>", line[2]) if word]
             for line in map(TEXT.fullmatch, drawn.stdout.splitlines())
             if line
         }
@@ -293,9 +294,18 @@ def try_marks(program):
                 f"p qrp 2 5\n1 1 2 0 0\n2 -1 2 0 0\n3 1 0 1 0\n{steps}{count - 1} -1 0 2 0\n{count} 0 {count - 2} {count - 1} 0\nr unsat\n"
             )
             expect(f"{count} steps: the warning", (f"these are {count} steps" in run(DRAW, formula, chain, program=program).stderr) == (count > 300))
+        for count, words, status in (2000, [], 0), (2001, [], 1), (2001, ["--force"], 0), (2001, ["--last", 2001], 0):
+            steps = "".join(f"{n} 1 0 {n - 1} 0\n" for n in range(4, count - 1))
+            last = f"{count - 1} -1 0 2 0\n{count} 0 {count - 2} {count - 1} 0\nr unsat\n"
+            chain.write_text(f"p qrp 2 5\n1 1 2 0 0\n2 -1 2 0 0\n3 1 0 1 0\n{steps}{last}")
+            drawn = run(DRAW, *words, formula, chain, program=program)
+            said = "these are 2001 steps, which takes dot very long: draw the end by --last 100, or all by --force"
+            expect(
+                f"{count} steps {words}", drawn.returncode == status and (said in drawn.stderr) == (status == 1) == (not drawn.stdout), drawn.stderr
+            )
         names.write_text('1 a<&\n2 "b"\\\n')
         drawn = run(DRAW, "--names", names, formula, formula.with_suffix(".qrp"), program=program)
-        wanted = ["    1 [shape=box, label=<<B>1</B><BR/>a&lt;&amp;&#160;<U>&quot;b&quot;\\</U>>];", '    3 -> 5 [label="a<&"];']
+        wanted = ["    1 [shape=box, label=<<B>1</B><BR/>a&lt;&amp;<I>&#160;</I><U>&quot;b&quot;\\</U>>];", '    3 -> 5 [label="a<&"];']
         expect("names in a graph", all(line in drawn.stdout.splitlines() for line in wanted), drawn)
         dot = shutil.which("dot")
         if dot:
@@ -306,29 +316,34 @@ def try_marks(program):
 
 
 def read_graph(name, text):
-    """The nodes and edges of the graph's text, which has to have the form that draw-proof gives it."""
+    """The nodes, the edges and the nodes of what is left out of the graph's text, which has to have the form that draw-proof gives it."""
     lines = text.splitlines()
     nodes = [(line[1], line[2]) for line in map(NODE.fullmatch, lines) if line]
     edges = [(line[1], line[2]) for line in map(EDGE.fullmatch, lines) if line]
     expect(f"{name}: the frame", lines[0] == "digraph proof {" and lines[-1] == "}")
-    expect(f"{name}: no other lines", len(lines) == 4 + len(nodes) + len(edges), lines)
+    stubs = [line[1] for line in map(STUB.fullmatch, lines) if line]
+    expect(f"{name}: no other lines", len(lines) == 4 + len(nodes) + len(edges) + len(stubs), lines)
     expect(f"{name}: tags are closed", text.count("<U>") == text.count("</U>"))
-    return nodes, edges
+    return nodes, edges, stubs
 
 
 def try_drawings(program):
     """The graph of a proof has the steps that `trim` keeps as its nodes, and their antecedents as its edges."""
     pairs = [(f / f"{f.name}.qdimacs", f / f"{f.name}.qrp") for f in EXAMPLES]
     for formula, trace in [*pairs, (ROOT / "examples" / "two_clauses.qdimacs", ROOT / "examples" / "two_clauses.qrp")]:
-        drawn = run(DRAW, formula, trace, program=program)
-        nodes, edges = read_graph(trace.name, drawn.stdout)
-        expect(f"{trace.name}: status", drawn.returncode == 0, drawn.stderr)
+        drawn = run(DRAW, "--force", formula, trace, program=program)
+        nodes, edges, stubs = read_graph(trace.name, drawn.stdout)
+        expect(f"{trace.name}: status", drawn.returncode == 0 and not stubs, drawn.stderr)
         expect(f"{trace.name}: a warning where it is large", ("try --last 100" in drawn.stderr) == (len(nodes) > 300), drawn.stderr)
         end = run(DRAW, "--last", 4, formula, trace, program=program)
-        last_nodes, last_edges = read_graph(f"{trace.name}, the last four", end.stdout)
+        last_nodes, last_edges, stubs = read_graph(f"{trace.name}, the last four", end.stdout)
         names = {name for name, _ in nodes[-4:]}
         holds = end.returncode == 0 and not end.stderr and last_nodes == nodes[-4:]
-        expect(f"{trace.name}: the last four steps", holds and last_edges == [edge for edge in edges if names.issuperset(edge)], end)
+        wanted = [edge for edge in edges if edge[1] in names]
+        expect(f"{trace.name}: the last four steps", holds and last_edges == wanted, end)
+        expect(f"{trace.name}: what is left out", sorted(stubs) == sorted({one for one, _ in wanted} - names), (stubs, wanted))
+        of_all, of_last = ({line[0] for line in map(LABEL.fullmatch, text.splitlines()) if line} for text in (drawn.stdout, end.stdout))
+        expect(f"{trace.name}: the labels are those of the whole", of_last <= of_all and of_last, of_last - of_all)
         trimmed = subprocess.run([program, "trim", formula, trace], capture_output=True, text=True, check=False).stdout
         steps = [line.split() for line in trimmed.splitlines() if line[0].isdigit()]
         shapes = [(step[0], "box" if step[-2:] == ["0", "0"] else "ellipse") for step in steps]
