@@ -24,6 +24,10 @@ ROOT = Path(__file__).resolve().parents[2]
 sys.path[:0] = [str(ROOT / "tests"), str(ROOT / "tools"), str(ROOT / "tests" / "tools")]
 sys.dont_write_bytecode = True
 from expect import expect, finish, skip  # noqa: E402
+from qrptools.circuits.aiger import read_circuit  # noqa: E402
+from qrptools.circuits.runs import Run  # noqa: E402
+from qrptools.formula import Formula  # noqa: E402
+from qrptools.names import Names  # noqa: E402
 from random_proofs import truth  # noqa: E402
 
 TOOL = ROOT / "tools" / "from-aiger"
@@ -317,7 +321,59 @@ def names_are_right(question, named, pairs, clauses, gates, pick):
         if found and name not in calls and found[2] in literals:
             value = steps[int(found[3] or 0)](literals[found[2]]) != bool(found[1])
             wrong += [] if (variable if value else -variable) in true else [name]
-    return not wrong and len(true) == len(pairs), (wrong, named, given)
+    return not wrong and len(true) == len(pairs), (wrong, named, given), given, true
+
+
+def waves(text):
+    """The values of the signals of a waveform in each step, by the names of their bits."""
+    widths, codes, now, steps = {}, {}, {}, []
+    for line in text.splitlines():
+        words = line.split()
+        if words[0] == "$var" and words[1] == "wire":
+            codes[words[3]] = (words[4], list(map(int, re.findall(r"\d+", words[5]))) if len(words) == 7 else None)
+            widths[words[3]] = int(words[2])
+        elif line.startswith("#"):
+            steps.append({})
+            assert line == f"#{10 * (len(steps) - 1)}", line
+        elif words[0][0] in "01":
+            now[codes[line[1:]][0]] = line[0] == "1"
+        elif words[0][0] == "b" and words[1] in codes:
+            name, (high, low) = codes[words[1]]
+            assert len(words[0]) == 1 + widths[words[1]] == 2 + high - low, line
+            now.update((f"{name}[{high - place}]", value == "1") for place, value in enumerate(words[0][1:]) if value != "x")
+        if steps:
+            steps[-1] = dict(now)
+    return steps[:-1]
+
+
+def run_is_right(run, question, demanded, used, given):
+    """Whether the files of a run have the values of the simulation, and its sentence says what is so."""
+    sample = question.sample
+    value_of = question.value_of({key: value and key[0] in used for key, value in given.items()})
+    steps = list(sample.run(question.steps, value_of))
+    rows = [[value_of(name, step) for name in sample.input_names()] for step in range(question.steps)]
+    last, bads = question.steps - 1, []
+    for place, value in enumerate(steps):
+        if not all(map(value, sample.constraints)):
+            break
+        if any(map(value, sample.bads)):
+            last, bads = place, [number for number, literal in enumerate(sample.bads) if value(literal)]
+            break
+    line = lambda values: "".join(str(int(value)) for value in values)
+    wanted = ["1", "".join(f"b{number}" for number in bads), line(steps[0](sample.latch(place)) for place in range(sample.latches))] if bads else []
+    wanted += [*map(line, rows[: last + 1]), "."]
+    found = waves("\n".join(run.waveform()))
+    signals = {"_".join(name.split()): 2 * (place + 1) for place, name in enumerate(sample.input_names())}
+    signals.update((f"l{place}", sample.latch(place)) for place in range(sample.latches))
+    signals.update((sample.output_name(place), literal) for place, literal in enumerate(sample.outputs))
+    signals.update((f"{kind}{place}", literal) for kind, own in (("b", sample.bads), ("c", sample.constraints)) for place, literal in enumerate(own))
+    if "a" in signals:  # the bus beside it is called in another way
+        signals.pop("a[0]", None)
+    shown = [{name: value(literal) for name, literal in signals.items()} for value in steps]
+    said, holds = run.sentence(), sample.holds(question.steps, value_of, question.asked, demanded)
+    is_fine = "no bad state is reached" in said or "all outputs are true" in said or "the assumption" in said
+    holds = list(run.stimulus()) == wanted and [{name: row[name] for name in signals} for row in found] == shown and is_fine == holds
+    return holds, (said, list(run.stimulus()), wanted, found, shown)
 
 
 def try_circuit(seed, program, folder, seen):
@@ -339,7 +395,7 @@ def try_circuit(seed, program, folder, seen):
         (folder / "formula").write_text(text)
         read = subprocess.run([program, "format", folder / "formula"], capture_output=True, check=False)
         expect(f"circuit {seed}: a formula for the program", read.returncode == 0, (read, text))
-    path.unlink()
+    path.write_bytes(sample.text(seed % 2 == 0))
     pairs, clauses = read_formula(text)
     named = {int(line.split()[0]): line.split()[1] for line in names.splitlines()}
     used = {name for _, name, step in question.prefix if shown(name, step, question.steps) in named.values()}
@@ -354,7 +410,13 @@ def try_circuit(seed, program, folder, seen):
     expect(f"circuit {seed}: what the formula says", truth(pairs, clauses) == answer, (question.words, text))
     gates = int((re.search(r"exists (\d+) gates?:", said) or [0, 0])[1])
     seen["names"] |= {name[:4] == "not_" for name in named.values()}
-    expect(f"circuit {seed}: the names", *names_are_right(question, named, pairs, clauses, gates, pick))
+    holds, found, given, true = names_are_right(question, named, pairs, clauses, gates, pick)
+    expect(f"circuit {seed}: the names", holds, found)
+    if prefix:
+        (folder / "formula").write_text(text)
+        run = Run(read_circuit(str(path), path.read_bytes()), Names(str(folder / "names")), Formula(text.encode()), true)
+        expect(f"circuit {seed}: a run", *run_is_right(run, question, demanded, used, given))
+    path.unlink()
 
 
 def blocks_in(rows):
