@@ -63,7 +63,7 @@ quoted() {
     local text=$2
     case $1 in
     *.cmake.in) text=${text//\\/"\\\\"} text=${text//\"/"\\\""} text=${text//\$/"\\\$"} ;;
-    *.pc.in) text=${text//\\/"\\\\"} text=${text// /"\\ "} ;;
+    *.pc.in) text=$(sed 's/[]\\"'"'"' #`[]/\\&/g' <<<"$text") ;;
     *.[1-9]) text=${text//\\/"\\e"} ;;
     esac
     printf '%s' "$text"

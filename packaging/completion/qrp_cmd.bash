@@ -20,7 +20,7 @@ _qrp_cmd() {
 _qrp_tool() {
     local word=${COMP_WORDS[COMP_CWORD]}
     COMPREPLY=()
-    [[ $word != -* ]] || _qrp_words "$("$1" --help 2>/dev/null | grep -oE -- '--[a-z][a-z-]*' | sort -u)" "$word"
+    [[ $word != -* ]] || _qrp_words "$("$1" --help 2>/dev/null | sed -n 's/^  \(-[a-z], \)\{0,1\}\(--[a-z][a-z-]*\).*/\2/p')" "$word"
 }
 
 # What is no word of a command is the name of a file.

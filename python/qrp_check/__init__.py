@@ -474,12 +474,15 @@ def core(formula: _Text, trace: _Text, *, any_pivot: bool = False) -> "list[int]
 
 def _whole(name: str, numbers: _Numbers) -> "list[int]":
     """The numbers as a list. Raises TypeError if they are not whole numbers; bytes are a text, and not a list of numbers."""
-    if isinstance(numbers, (str, bytes, bytearray)):
+    if isinstance(numbers, (str, bytes, bytearray, dict)):
         raise TypeError(f"the {name} are a {type(numbers).__name__}: pass the numbers, for example as a list")
     try:
-        return list(map(operator.index, numbers))
+        whole = list(numbers)
+        if bool in map(type, whole):
+            raise TypeError("a bool is not a number here")
+        return list(map(operator.index, whole))
     except TypeError as error:
-        raise TypeError(f"the {name} have to be whole numbers: {error}") from error
+        raise TypeError(f"{name}: whole numbers are wanted: {error}") from error
 
 
 def _within(number: int, least: int, greatest: int) -> int:

@@ -360,7 +360,7 @@ def run_is_right(run, question, demanded, used, given):
             last, bads = place, [number for number, literal in enumerate(sample.bads) if value(literal)]
             break
     line = lambda values: "".join(str(int(value)) for value in values)
-    wanted = ["1", "".join(f"b{number}" for number in bads), line(steps[0](sample.latch(place)) for place in range(sample.latches))] if bads else []
+    wanted = ["1" if bads else "2", "".join(f"b{number}" for number in bads) or "b0", line(steps[0](sample.latch(place)) for place in range(sample.latches))]
     wanted += [*map(line, rows[: last + 1]), "."]
     found = waves("\n".join(run.waveform()))
     signals = {"_".join(name.split()): 2 * (place + 1) for place, name in enumerate(sample.input_names())}

@@ -126,13 +126,13 @@ class Run:
         return f"in a simulation, in step {first} of 0 to {self.count - 1}: {', '.join(said for place, said in wrong if place == first)}"
 
     def stimulus(self) -> Iterator[str]:
-        """The lines of a witness: the bad states that are reached first, the first values of the latches, and the inputs of each step up to
-        then. If none is reached, the inputs of all steps alone."""
+        """The lines of a witness: its status, the bad states that are reached first, the first values of the latches, and the inputs of each step
+        up to then. The status is 1; it is 2, of what is not decided, if none is reached: then all steps are there, and the property is the first
+        one."""
         last, bads = self.reached()
-        if bads:
-            yield "1"
-            yield "".join(f"b{place}" for place in bads)
-            yield "".join(str(self.steps[0].value(latch.literal)) for latch in self.circuit.latches)
+        yield "1" if bads else "2"
+        yield "".join(f"b{place}" for place in bads or [0])
+        yield "".join(str(self.steps[0].value(latch.literal)) for latch in self.circuit.latches)
         for step in self.steps[: last + 1]:
             yield "".join(str(step.value(literal)) for literal in self.circuit.inputs)
         yield "."

@@ -80,11 +80,11 @@ def text_row(pair: Pair, result: Result) -> str:
 def json_row(pair: Pair, result: Result) -> str:
     """The row of the table as JSON. What is not known is null."""
     lost = result.seconds == "-"
-    files = {"formula": pair.formula, "trace": pair.trace, "qu": pair.flag == FLAG}
+    files = {"formula": as_text(pair.formula), "trace": as_text(pair.trace), "qu": pair.flag == FLAG}
     figures: list[object] = [None, None, None] if lost else [float(result.seconds), float(result.cpu_seconds), int(result.kilobytes)]
     return json.dumps(
         {
-            "name": pair.name,
+            "name": as_text(pair.name),
             **files,
             "expected": {"true": True, "false": False}.get(pair.expected),
             "line": result.line,
@@ -125,7 +125,12 @@ def attribute(text: str) -> str:
 
 def printable(text: str) -> str:
     """A text without what XML has no way to write."""
-    return "".join(letter if letter.isprintable() else f"\\x{ord(letter):02x}" for letter in os.fsencode(text).decode(errors="backslashreplace"))
+    return "".join(letter if letter.isprintable() else f"\\x{ord(letter):02x}" for letter in as_text(text))
+
+
+def as_text(name: str) -> str:
+    """A name as text, also one of bytes that are no text: those are written as \\xff, so that other names stay other ones."""
+    return os.fsencode(name).decode(errors="backslashreplace")
 
 
 def summary(pairs: list[Pair], results: list[Result]) -> str:

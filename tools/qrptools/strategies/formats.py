@@ -113,7 +113,7 @@ def function(given: tuple[int, ...], label: str, labels: Labels) -> Iterator[str
 
 def word(name: str) -> str:
     """A name without what means something in BLIF."""
-    return re.sub(r'[^!-~]|[#\\"=]', "_", name)
+    return re.sub(r"[^!-~]|[#\\\"='`]", "_", name)
 
 
 def wrapped(words: list[str]) -> Iterator[str]:

@@ -116,7 +116,7 @@ def variables_of(path: str, circuit: Circuit, kind: str, count: int, formula: Fo
         what, symbol = f"{KINDS[kind]} {place}", circuit.names.get((kind, place))
         if symbol is None:
             raise finding(f"{path}: {what} has no symbol, which says what its variable is")
-        variable = names.variable(symbol)
+        variable = names.variable(symbol) or names.variable(symbol.lstrip("\\"))  # yosys writes a backslash before numbers
         if variable not in formula.places:
             raise finding(f"{path}: {what} is called '{symbol}', which is not a variable of the formula")
         if variable in found:
