@@ -360,7 +360,11 @@ def run_is_right(run, question, demanded, used, given):
             last, bads = place, [number for number, literal in enumerate(sample.bads) if value(literal)]
             break
     line = lambda values: "".join(str(int(value)) for value in values)
-    wanted = ["1" if bads else "2", "".join(f"b{number}" for number in bads) or "b0", line(steps[0](sample.latch(place)) for place in range(sample.latches))]
+    wanted = [
+        "1" if bads else "2",
+        "".join(f"b{number}" for number in bads) or "b0",
+        line(steps[0](sample.latch(place)) for place in range(sample.latches)),
+    ]
     wanted += [*map(line, rows[: last + 1]), "."]
     found = waves("\n".join(run.waveform()))
     signals = {"_".join(name.split()): 2 * (place + 1) for place, name in enumerate(sample.input_names())}
@@ -692,6 +696,124 @@ def try_steps(folder):
         expect(f"{steps} steps", ended.returncode == 0 and ended.stderr.decode().splitlines()[0].endswith(said), ended.stderr)
 
 
+ARBITER = ROOT / "examples" / "arbiter"
+STEPS = ["--steps", "3", "--forall", "r*", "--exists", "g*"]
+GRANTS = ["ga@0 !gb@0", "ga@1 !gb@1", "!ga@2 !gb@2"]  # b asks for the bus in step 0 and in step 1
+WITNESS = "1\nb3\n00\n01110\n01110\n.\n"
+
+
+def tool(name, *words):
+    return subprocess.run([sys.executable, ROOT / "tools" / name, *map(str, words)], capture_output=True, text=True, check=False, timeout=60)
+
+
+def constant_strategy(folder, circuit, *more):
+    """The formula of the arbiter, its names, and as a circuit of the universal player: everybody asks, in each step."""
+    formula, names, strategy = folder / "runs.q", folder / "runs.names", folder / "runs.aag"
+    formula.write_bytes(run(*STEPS, *more, "--names", names, circuit).stdout)
+    pairs, _ = read_formula(formula.read_text())
+    inputs, outputs = ([variable for quantifier, variable in pairs if quantifier == wanted] for wanted in "ea")
+    lines = [f"aag {len(inputs)} {len(inputs)} 0 {len(outputs)} 0", *(str(2 * place) for place in range(1, len(inputs) + 1)), *["1"] * len(outputs)]
+    lines += [f"{kind}{place} {variable}" for kind, variables in (("i", inputs), ("o", outputs)) for place, variable in enumerate(variables)]
+    strategy.write_text("".join(f"{line}\n" for line in lines))
+    return formula, names, strategy
+
+
+def try_runs(folder):
+    """A play to the end is run in the circuit: the line says what happens in which step, and the files have it for other programs."""
+    circuit = ARBITER / "arbiter.aag"
+    formula, names, strategy = constant_strategy(folder, circuit)
+    stim, wave = folder / "run.stim", folder / "run.vcd"
+    words = ["--names", names, "--model", circuit, "--stim", stim, "--vcd", wave]
+    replies = [word for reply in GRANTS for word in ("--reply", reply)]
+    ended = tool("play", *words, *replies, "--strategy", strategy, formula)
+    said = "in a simulation, in step 1 of 0 to 2: the bad state b3 is true\n"
+    expect("a play that is run", ended.returncode == 0 and ended.stdout.endswith(said), ended)
+    expect("a play that is run: the witness", stim.read_text() == WITNESS, stim.read_text())
+    found = [{name: row[name] for name in ("ga", "gb", "waits_b", "b3")} for row in waves(wave.read_text())]
+    wanted = [(True, False, False, False), (True, False, True, True), (False, False, True, False)]
+    expect("a play that is run: the wave", [tuple(row.values()) for row in found][:2] == wanted[:2] and len(found) == 3, found)
+    as_json = tool("play", "--json", *words, *replies, "--strategy", strategy, formula)
+    expect("a play that is run, as JSON", '"run": "in a simulation, in step 1 of 0 to 2: the bad state b3 is true"' in as_json.stdout, as_json)
+    before = stim.read_text(), wave.read_text()
+    stim.unlink(), wave.unlink()
+    shown_run = tool("explain-strategy", *words, *replies, "--circuit", strategy, formula)
+    expect("the run of a strategy", shown_run.returncode == 0 and shown_run.stdout == said, shown_run)
+    expect("the run of a strategy: its files", (stim.read_text(), wave.read_text()) == before)
+    serving = [word for reply in ("ga@0 !gb@0", "!ga@1 gb@1", "ga@2 !gb@2") for word in ("--reply", reply)]
+    ended = tool("play", *words, *serving, "--strategy", strategy, formula)
+    expect(
+        "a run without a bad state", ended.returncode == 1 and ended.stdout.endswith("in a simulation of 3 steps no bad state is reached\n"), ended
+    )
+    expect("a run without a bad state: the file", stim.read_text() == "2\nb0\n00\n01110\n01101\n01110\n.\n", stim.read_text())
+    for name, options, status, wanted in (
+        ("a play that stops", [*words, "--strategy", strategy, formula], 2, "so there is no run of the model: give a --reply for each"),
+        ("no names", [*words[2:], "--strategy", strategy, formula], 2, "--model goes with --names"),
+        ("no model", ["--vcd", wave, "--strategy", strategy, formula], 2, "--stim, --vcd and --map go with --model"),
+        ("no circuit", [*words[:3], names, *replies, "--strategy", strategy, formula], 1, "the file is no circuit"),
+        (
+            "another circuit",
+            [*words[:3], ROOT / "examples/average/average.aag", *replies, "--strategy", strategy, formula],
+            1,
+            "no input of the circuit is a",
+        ),
+        ("no folder", [*words[:5], folder / "none" / "x", *replies, "--strategy", strategy, formula], 2, "x cannot be written"),
+    ):
+        ended = tool("play", *options)
+        expect(f"a run: {name}", ended.returncode == status and wanted in ended.stderr and "Traceback" not in ended.stderr, ended)
+    for name, options, wanted in (
+        ("no value of the other player", [*words, "--reply", "ra@0", "--circuit", strategy, formula], "'ra@0' is no value of the other player"),
+        ("no model", ["--reply", "ga@0", "--circuit", strategy, formula], "--reply goes with --model"),
+        ("a format", [*words, "--format", "aag", "--circuit", strategy, formula], "--only, --block and --format do not go with it"),
+    ):
+        ended = tool("explain-strategy", *options)
+        expect(f"the run of a strategy: {name}", ended.returncode == 2 and wanted in ended.stderr, ended)
+    other = folder / "other.aag"
+    other.write_text(circuit.read_text().replace("\n8 ", "\n10 ", 0).replace("i1 ra\ni2 rb", "i1 rb\ni2 ra").replace("i3 ga\ni4 gb", "i3 gb\ni4 ga"))
+    ended = tool("play", "--names", names, "--model", other, *replies, "--strategy", strategy, formula)
+    expect("a run: a circuit with other names", ended.returncode == 1 and "the formula or its names are of another circuit" in ended.stderr, ended)
+
+
+def try_replay(folder):
+    """yosys makes a map with the lines of assertions, and simulates the witness in the Verilog itself; GTKWave's reader takes the wave."""
+    if not shutil.which("yosys"):
+        skip("a run in the Verilog", "there is no yosys")
+        return
+    read = f"read_verilog -formal {ARBITER}/arbiter.v"
+    made = f"{read}; synth -flatten -top arbiter; async2sync; dffunmap; aigmap; write_aiger -symbols -zinit"
+    for option in "-vmap", "-map":
+        subprocess.run(["yosys", "-q", "-p", f"{made} {option} {folder}/arbiter{option} {folder}/arbiter.aig"], capture_output=True, check=False)
+    lines = ["--map", folder / "arbiter-vmap"]
+    formula, names, strategy = constant_strategy(folder, folder / "arbiter.aig", *lines)
+    stim, wave = folder / "run.stim", folder / "run.vcd"
+    replies = [word for reply in GRANTS for word in ("--reply", reply)]
+    words = ["--names", names, "--model", folder / "arbiter.aig", *lines, "--stim", stim, "--vcd", wave, *replies, "--strategy", strategy, formula]
+    ended = tool("play", *words)
+    expect("the line of an assertion", "in step 1 of 0 to 2: the bad state arbiter.v:13_fails is true\n" in ended.stdout, ended)
+    shutil.copy(stim, folder / "run.aiw")
+    replay = f"{read}; prep -flatten -top arbiter; sim -clock clk -r {folder}/run.aiw -map {folder}/arbiter-map"
+    said = subprocess.run(["yosys", "-p", replay], capture_output=True, text=True, check=False)
+    failed = set(re.findall(r"arbiter\.v:(\d+)\S* \(\S*\) failed", said.stdout + said.stderr))
+    expect("the witness in the Verilog", failed == {"13"} and stim.read_text() == WITNESS, said)
+    ended = run(*STEPS, "--map", names, folder / "arbiter.aig")
+    expect("a file that is no map", ended.returncode == 1 and b"is no map of yosys with wires" in ended.stderr, ended)
+    source = folder / "assumed.v"
+    lines = ["module assumed(input a, input b, input e, input h);", "always @* if (e) assert(a | h);", "always @* assume(a | b);", "endmodule"]
+    source.write_text("".join(f"{line}\n" for line in lines))
+    script = f"read_verilog -formal {source}; synth -flatten -top assumed; aigmap; write_aiger -symbols -vmap {folder}/vmap {folder}/assumed.aig"
+    subprocess.run(["yosys", "-q", "-p", script], capture_output=True, check=False)
+    ended = run("--exists", "h", "--map", folder / "vmap", folder / "assumed.aig")
+    wanted = b"asked: assumed.v:2_fails is false; as long as assumed.v:3 holds\n"
+    expect("the lines of an assertion that is asked at times, and of an assumption", wanted in ended.stderr, ended)
+    if not shutil.which("vcd2fst"):
+        skip("the wave for GTKWave", "there is no vcd2fst")
+        return
+    made = subprocess.run(["vcd2fst", wave, folder / "run.fst"], capture_output=True, text=True, check=False)
+    again = subprocess.run(["fst2vcd", folder / "run.fst"], capture_output=True, text=True, check=False)
+    expect(
+        "the wave for GTKWave", made.returncode == 0 and "arbiter.v:13_fails" in again.stdout and "#10\n" in again.stdout, (made, again.stdout[-500:])
+    )
+
+
 def try_verilog(folder):
     """The circuit of docs/TUTORIAL.md, by yosys: the hole is filled, and the answer is right by a simulation."""
     if not shutil.which("yosys"):
@@ -723,7 +845,8 @@ def main():
         try_text(folder)
         for case in try_names, try_patterns, try_order, try_constraints, try_asked, try_summary, try_files, try_steps:
             case(folder)
-        try_verilog(folder)
+        for case in try_runs, try_replay, try_verilog:
+            case(folder)
     return finish(6015)
 
 
