@@ -437,7 +437,7 @@ WRONG = [
     ("latches", RIGHT.replace("aag 1 1 0", "aag 2 1 1"), "the circuit has latches, and that of a strategy has none"),
     ("bad states", RIGHT.replace("2 0\n", "2 0 1\n", 1), "the circuit has bad states, and that of a strategy has none"),
     ("constraints", RIGHT.replace("2 0\n", "2 0 0 1\n", 1), "the circuit has constraints, and that of a strategy has none"),
-    ("justice", RIGHT.replace("2 0\n", "2 0 0 0 1\n", 1), "justice or fairness"),
+    ("justice", RIGHT.replace("2 0\n", "2 0 0 0 1\n", 1), "the circuit has justice properties"),
     ("an output too few", "aag 1 1 0 1 0\n2\n1\ni0 2\no0 1\n", "the circuit has 1 inputs and 1 outputs, and the formula"),
     ("no symbol of an input", RIGHT.replace("i0 2\n", ""), "input 0 has no symbol"),
     ("no symbol of an output", RIGHT.replace("o1 3\n", ""), "output 1 has no symbol"),
@@ -557,6 +557,30 @@ def try_expressions(use):
         found == [*ports, "    wire g_4 = g4 & v_3;", "    assign v_4 = g_4;", "    assign v_5 = ~g_4;", "endmodule"],
         found,
     )
+
+
+def try_odd_names(use):
+    """Names of any bytes come back as they went, in any locale; names that mean something elsewhere are changed, and --only takes each name."""
+    formula = use.write("formula", "p cnf 3 0\na 1 0\ne 2 3 0\n")
+    names = use.write("names", b"1 \xff\n2 caf\xc3\xa9,x\n3 1'b0\n")
+    plain = use.write("circuit", "aag 1 1 0 2 0\n2\n2\n3\ni0 1\no0 2\no1 3\n")
+    words = ["--names", names, "--format", "aag", "--circuit"]
+    for variables in {}, {"LC_ALL": "C"}, {"LC_ALL": "C", "PYTHONUTF8": "0", "PYTHONCOERCECLOCALE": "0"}:
+        environment = {"env": {**use.environment, **variables}, "encoding": "utf-8", "errors": "surrogateescape"}
+        ended = use.run(TOOL, *words, plain, formula, **environment)
+        again = use.run(TOOL, *words, use.write("again", ended.stdout.encode("utf-8", "surrogateescape")), formula, **environment)
+        expect(f"names of any bytes {variables}", ended.returncode == 0 and "i0 \udcff\no0 caf\u00e9,x\no1 1'b0\n" in ended.stdout, ended)
+        expect(f"names of any bytes come back {variables}", (again.returncode, again.stdout) == (0, ended.stdout), again)
+    blif = use.run(TOOL, "--names", names, "--format", "blif", "--circuit", plain, formula, **environment).stdout
+    expect("a name like a constant in BLIF", "1_b0" in blif and "'" not in blif, blif)
+    one = use.run(TOOL, "--names", names, "--only", "caf\u00e9,x", "--circuit", plain, formula, errors="surrogateescape")
+    expect("a name with a comma is chosen", one.returncode == 0 and "1 output, " in one.stdout, one)
+    for nothing in "", ",", " ":
+        use.expect(f"--only '{nothing}'", use.run(TOOL, "--only", nothing, "--circuit", plain, formula), 2, "", "--only names no output")
+    path = use.write("yosys", "aag 1 1 0 2 0\n2\n2\n3\ni0 \\1\no0 \\2\no1 \\3\n")
+    expect("numbers as yosys writes them", use.shown("--circuit", path, formula) == use.shown("--circuit", plain, formula))
+    path = use.write("justice", "aag 1 1 0 2 0 0 0 1\n2\n2\n3\n1\n2\n")
+    use.expect("justice", use.run(TOOL, "--circuit", path, formula), 1, "", "the circuit has justice properties, and that of a strategy has none")
 
 
 def try_choices(use):
@@ -823,13 +847,14 @@ PARTS = [
     try_wrong_circuits,
     try_no_variables,
     try_expressions,
+    try_odd_names,
     try_choices,
     try_words,
     try_play,
     try_solve,
     try_full_folder,
 ]
-WITHOUT_PROGRAM = [try_random_circuits, try_wrong_circuits, try_no_variables, try_expressions, try_choices]
+WITHOUT_PROGRAM = [try_random_circuits, try_wrong_circuits, try_no_variables, try_expressions, try_odd_names, try_choices]
 LEAST = 1726
 
 

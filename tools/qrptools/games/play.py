@@ -36,6 +36,7 @@ class Failing(NamedTuple):
 
 
 SOME_CLAUSES = 5  # in a message
+UNNAMED = 20  # variables without a name that are shown in a move, if others have names
 
 
 class Play:
@@ -105,8 +106,13 @@ class Play:
         who = f"by the {self.state.by}" if move.is_winners else "the other player"
         gates, shown = set(move.gates), []
         literals = [literal for literal in move.values if abs(literal) not in gates]
+        unnamed = [literal for literal in literals if abs(literal) not in self.names.names] if self.names.names else []
+        if len(unnamed) > UNNAMED:
+            literals = [literal for literal in literals if abs(literal) in self.names.names]
         if literals:
             shown.append(self.names.shown(literals))
+        if len(unnamed) > UNNAMED:
+            shown.append(f"{len(unnamed)} variables without a name")
         if gates:
             shown.append(f"{len(gates)} gate{'s' if len(gates) > 1 else ''} as defined")
         yield f"{described(move.block)}, {who}: {', and '.join(shown)}"
