@@ -27,13 +27,13 @@ RUN = [
     Run("docs/TUTORIAL.md", "yosys -q -p 'read_verilog -formal examples/arbiter", "1\n", 'bash -e "$block"; grep -a -c "^i4 gb$" watched.aig'),
     Run(
         "docs/TUTORIAL.md",
-        "yosys -q -p 'read_verilog -formal examples/buffer/buffer.v; synth -flatten -top buffer; async2sync; dffunmap; aigmap;\n        write_aiger -symbols -zinit -vmap",
+        "yosys -q -p 'read_verilog -formal examples/buffer/buffer.v; synth -flatten -top buffer; async2sync; dffunmap; aigmap;\n    write_aiger -symbols -zinit -vmap",
         "1\n",
         'bash -e "$block"; grep -c "buffer.v:9.*CHECK" buffer.map',
     ),
     Run(
         "docs/TUTORIAL.md",
-        "yosys -q -p 'read_verilog -formal examples/buffer/buffer.v; synth -flatten -top buffer; async2sync; dffunmap; aigmap;\n        write_aiger -symbols -zinit -map",
+        "yosys -q -p 'read_verilog -formal examples/buffer/buffer.v; synth -flatten -top buffer; async2sync; dffunmap; aigmap;\n    write_aiger -symbols -zinit -map",
         "buffer.v:9\n",
         'bash -e "$block" | grep -o -m 1 "buffer.v:9"; cmp wave.svg examples/buffer/wave.svg',
     ),
