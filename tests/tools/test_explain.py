@@ -767,7 +767,7 @@ def main():
     try_needed(program)
     try_step_names(program)
     try_pages(program)
-    return finish(5941)
+    return finish(6283)
 
 
 if __name__ == "__main__":

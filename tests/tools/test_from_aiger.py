@@ -773,6 +773,22 @@ def try_runs(folder):
     expect("a run: a circuit with other names", ended.returncode == 1 and "the formula or its names are of another circuit" in ended.stderr, ended)
 
 
+def try_lost_run(program, folder):
+    """A strategy that does not win is shown to lose in the circuit."""
+    if not shutil.which("depqbf"):
+        skip("a run that is lost", "there is no depqbf")
+        return
+    circuit, wave = ARBITER / "arbiter.aag", folder / "lost.vcd"
+    formula, names, strategy = constant_strategy(folder, circuit)
+    words = ["--verify", "--names", names, "--model", circuit, "--vcd", wave, "--circuit", strategy, formula]
+    os.environ["QRP_CMD"] = program
+    ended = tool("explain-strategy", *words)
+    said = "in a simulation of 3 steps no bad state is reached\n"
+    expect("a run that is lost", ended.returncode == 1 and ended.stdout == said and "the circuit does not win: with " in ended.stderr, ended)
+    steps = waves(wave.read_text())
+    expect("a run that is lost: its wave", len(steps) == 3 and all(row["ra"] and row["rb"] and row["ga"] != row["gb"] for row in steps), steps)
+
+
 def try_replay(folder):
     """yosys makes a map with the lines of assertions, and simulates the witness in the Verilog itself; GTKWave's reader takes the wave."""
     if not shutil.which("yosys"):
@@ -847,7 +863,8 @@ def main():
             case(folder)
         for case in try_runs, try_replay, try_verilog:
             case(folder)
-    return finish(6015)
+        try_lost_run(program, folder)
+    return finish(6611)
 
 
 if __name__ == "__main__":

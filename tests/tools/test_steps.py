@@ -96,8 +96,8 @@ def try_rows(program, rows):
         numbered = run(EXPLAIN, *flags, formula, trace, number, program="/nonexistent")
         expect(f"{flag} {line}, by its number", numbered.returncode == 0 and numbered.stdout in shown.stdout, numbered)
         if fault == "S3":
-            drawn = run(DRAW, "--force", formula, trace, program=program)
-            nodes, edges = read_graph(f"{flag} {line}, drawn", drawn.stdout)
+            drawn = run(DRAW, formula, trace, program=program)
+            nodes, edges, _ = read_graph(f"{flag} {line}, drawn", drawn.stdout)
             expect(f"{flag} {line}: every step drawn but the last is needed", {n for n, _ in edges} == {n for n, _ in nodes[:-1]}, drawn)
     expect("the rows have all faults of steps", seen == FAULTS, sorted(FAULTS - seen))
 
