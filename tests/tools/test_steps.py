@@ -538,7 +538,7 @@ def main():
     try_marks(program)
     try_blanks(program)
     try_words(program)
-    return finish(12292)
+    return finish(12412)
 
 
 if __name__ == "__main__":

@@ -225,7 +225,7 @@ def try_formats(use, given):
 def try_table(use, given, outputs):
     """The table of all outputs, or of some: a row for all values of the inputs that they depend on."""
     for some in [outputs, *([output] for output in random.Random(given.name).sample(outputs, min(3, len(outputs))))]:
-        ended = use.run(TOOL, *given.words("--format", "table", "--only", ",".join(some)))
+        ended = use.run(TOOL, *given.words("--format", "table", *(["--only", ",".join(some)] if some else [])))
         if not ended.returncode:
             expect(f"{given.name}: the table of {some}", is_table(given, some, ended.stdout), ended.stdout)
             return
@@ -577,6 +577,17 @@ def try_odd_names(use):
     expect("a name with a comma is chosen", one.returncode == 0 and "1 output, " in one.stdout, one)
     for nothing in "", ",", " ":
         use.expect(f"--only '{nothing}'", use.run(TOOL, "--only", nothing, "--circuit", plain, formula), 2, "", "--only names no output")
+    words = "endmodule endcase endfunction endgenerate endspecify endtask cmos incdir always_ff unique0 bind pulsestyle_onevent rtranif1".split()
+    names = use.write("words", f"1 {words[0]}\n2 {words[1]}\n3 plain\n")
+    text = use.shown("--names", names, "--format", "verilog", "--circuit", plain, formula)
+    expect("keywords in Verilog", f"input \\{words[0]} ," in text and f"assign \\{words[1]}  = " in text and "output plain" in text, text)
+    for word in words:
+        use.write("words", f"1 {word}\n")
+        text = use.shown("--names", names, "--format", "verilog", "--circuit", plain, formula)
+        expect(f"the keyword {word}", f"input \\{word} ," in text, text)
+        if shutil.which("yosys"):
+            read = ["yosys", "-q", "-p", f"read_verilog -sv {use.write('module.v', text)}"]
+            expect(f"yosys reads a name {word}", subprocess.run(read, check=False, capture_output=True).returncode == 0, text)
     path = use.write("yosys", "aag 1 1 0 2 0\n2\n2\n3\ni0 \\1\no0 \\2\no1 \\3\n")
     expect("numbers as yosys writes them", use.shown("--circuit", path, formula) == use.shown("--circuit", plain, formula))
     path = use.write("justice", "aag 1 1 0 2 0 0 0 1\n2\n2\n3\n1\n2\n")
@@ -855,7 +866,7 @@ PARTS = [
     try_full_folder,
 ]
 WITHOUT_PROGRAM = [try_random_circuits, try_wrong_circuits, try_no_variables, try_expressions, try_odd_names, try_choices]
-LEAST = 1726
+LEAST = 1746
 
 
 def main():
