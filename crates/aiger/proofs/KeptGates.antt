@@ -1,11 +1,11 @@
 -- Gates with more after them, and the value of each.
-use Rattle.std.proofs.Common.{arith, ◌≡◌, ◌<◌, ◌+◌, ℕ, zero, suc, Bool, List, [], ◌∷◌, ◌++◌, Some, slice_get, refl}
-use Rattle.std.proofs.Common.{sym, subst, length}
+use Rattle.std.proofs.Common.{arith, ◌≡◌, ◌<◌, ◌≤◌, ◌+◌, ℕ, zero, suc, Bool, List, [], ◌∷◌, ◌++◌, Some, slice_get, refl}
+use Rattle.std.proofs.Common.{ap, sym, subst, length, ◌∙◌}
 use Rattle.std.proofs.lemmas.Grind.{common_steps}
-use Rattle.std.proofs.lemmas.List.{length-append}
+use Rattle.std.proofs.lemmas.List.{length-append, append_assoc}
 use Rattle.aiger.specs.Wires.{Wire, value_at, plain}
 use Rattle.aiger.specs.Circuits.{Gate, KeepsGates, StandBelow, gate_value}
-use Rattle.aiger.specs.Building.{AreGates, Built, HasValues}
+use Rattle.aiger.specs.Building.{AreGates, Built, Grows, HasValues, next_of}
 
 pub keeps_left : (n : ℕ) (a b : List Gate) (run : ℕ → Bool) → KeepsGates n (a ++ b) run → KeepsGates n a run
 keeps_left n [] b run k = tt
@@ -55,3 +55,28 @@ pushed_value b gates g w i is count named =
     let at : slice_get b.gates (length gates)
     ≡ Some g = subst (λ (gs : List Gate). slice_get gs (length gates) ≡ Some g) (sym is) (last_at gates g) in
     found_value b i g w (subst (λ (k : ℕ). slice_get b.gates k ≡ Some g) (sym count) at) named
+
+-- ---- gates with others after them
+
+pub grows_same : (b : Built) → Grows b b
+grows_same b = record { same = refl; more = []; grown = grind (arith, common_steps) }
+
+pub grows_then : (a b c : Built) → Grows a b → Grows b c → Grows a c
+grows_then a b c g h = record {
+  same = h.same ∙ g.same;
+  more = g.more ++ h.more;
+  grown = h.grown ∙ (ap (λ (gs : List Gate). gs ++ h.more) g.grown ∙ append_assoc a.gates g.more h.more);
+}
+
+pub next_grows : (a b : Built) → Grows a b → next_of a ≤ next_of b
+next_grows a b g =
+    let count : length b.gates ≡ length a.gates + length g.more = ap length g.grown ∙ length-append a.gates g.more in
+    let same : b.first ≡ a.first = g.same in omega arith
+
+pub values_before : (a b : Built) (run : ℕ → Bool) → Grows a b → HasValues b run → HasValues a run
+values_before a b run g has = record {
+  constant = has.constant;
+  keeps = keeps_left a.first a.gates g.more run
+      (subst (λ (n : ℕ). KeepsGates n (a.gates
+      ++ g.more) run) g.same (subst (λ (gs : List Gate). KeepsGates b.first gs run) g.grown has.keeps));
+}

@@ -5,6 +5,7 @@ ghost use Rattle.std.specs.Prelude.{slice_get};
 ghost use Rattle.std.specs.Prelude.{IfOk, IfSome, IsTrue, OnErr, length};
 ghost use Rattle.std.specs.Result.{IsErrOf};
 ghost use Rattle.aiger.specs.Building.{Grows, IsBoth, IsFolded, IsGate, StandsForBoth, next_of};
+ghost use Rattle.aiger.specs.Choosing.{IsGateOf};
 ghost use Rattle.aiger.specs.Circuits.{StandBelow};
 ghost use Rattle.aiger.specs.Wires.{constant, plain};
 
@@ -211,6 +212,19 @@ impl Builder {
         ensures { result ≡ plain (self.now.first + place) }
     {
         Wire::new(self.first + place as u32, false)
+    }
+
+    /// The gate of a wire's variable, if it is that of a gate.
+    pub fn gate_of(&self, wire: Wire) -> Option<Gate>
+        ensures { IfSome result (IsGateOf self.now wire.var) }
+    {
+        if wire.var() < self.first {
+            return None;
+        }
+        match self.gates.get((wire.var() - self.first) as usize) {
+            Some(gate) => Some(*gate),
+            None => None,
+        }
     }
 
     /// Whether this gate is at a place.

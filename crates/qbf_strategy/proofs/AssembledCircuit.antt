@@ -32,7 +32,8 @@ use Rattle.qbf_strategy.proofs.ReadyDecisions.{are_ready}
 use Rattle.qbf_strategy.proofs.ChainedEntries.{got_more}
 use Rattle.aiger.proofs.TrimmedGates.{take_next}
 use Rattle.qbf_strategy.proofs.ChosenValues.{lists_say}
-use Rattle.qbf_strategy.proofs.ConditionGates.{below_grown, values_before}
+use Rattle.aiger.proofs.KeptGates.{values_before}
+use Rattle.qbf_strategy.proofs.ConditionGates.{below_grown}
 
 -- ---- one wire more
 
@@ -64,7 +65,7 @@ in_pushed (z ∷ xs) y x (inr h) = elim (in_pushed xs y x h) [
   | inr e ↦ inr e
 ]
 
-module _ (mine : Quantifier) (ps : List (Quantifier × ℕ)) (kept removed : List (List Literal)) where
+module _ (mine : Quantifier) (ps : List (Quantifier × ℕ)) (kept removed : List (List Literal)) (is_plain : Bool) where
   -- the gates that one variable more may take
   cost_known : (a b : Assembly) (q : Quantifier) (v : ℕ) (w : Wire) → IsDistinct nat_eq (variables ps)
       → slice_get ps (length a.known.items) ≡ Some (q, v) → b.known.items ≡ a.known.items ++ w ∷ []
@@ -89,31 +90,31 @@ module _ (mine : Quantifier) (ps : List (Quantifier × ℕ)) (kept removed : Lis
   }
 
   pub output_too_long : (a : Assembly) (entries : Entries) (q : Quantifier) (v : ℕ) → AreEntriesOf mine ps kept removed entries
-      → AreAssembled mine ps kept removed a → slice_get ps (length a.known.items) ≡ Some (q, v)
+      → AreAssembled mine ps kept removed is_plain a → slice_get ps (length a.known.items) ≡ Some (q, v) → is_plain ≡ true
       → ((last u : ℕ) (said : Sayings) → slice_get entries.heads.items (length a.known.items) ≡ Some last
       → Chain entries.entries.items u last said → 2147483648 ≤ next_of a.work.gates + cost_among kept (u ∷ []) said)
       → 2147483648 ≤ a.first + cost_all kept (with_lists mine 0 removed [])
-  output_too_long a entries q v of are at long = elim (slice_get_cases entries.heads.items (length a.known.items)).1 [
+  output_too_long a entries q v of are at chains long = elim (slice_get_cases entries.heads.items (length a.known.items)).1 [
     | inl (last, _, here, _) ↦
         let said : Sayings = with_lists mine 0 removed [] in
         let gates = long last v said here (of.have.chains (length a.known.items) v last (q, at) here) in
         let next = cost_next kept ps (length a.known.items) v said of.distinct (q, at) in
         let all = cost_within kept (take (length a.known.items + 1) (variables ps)) said in
-        let few = are.few in omega (arith, gates, next, all, few)
+        let few = are.few chains in omega (arith, gates, next, all, few)
     | inr (past, _) ↦ absurd
         (let places = of.places in
         let within = slice_get_within ps (length a.known.items) (q, v) at in omega (arith, past, places, within))
   ]
 
-  pub input_there : (a : Assembly) (q : Quantifier) (v : ℕ) → AreAssembled mine ps kept removed a
+  pub input_there : (a : Assembly) (q : Quantifier) (v : ℕ) → AreAssembled mine ps kept removed is_plain a
       → slice_get ps (length a.known.items) ≡ Some (q, v) → is_quantifier q mine ≡ false
       → a.first ≡ length (variables_of (opponent mine) ps) + 1 → a.input < a.first
   input_there a q v are at theirs first =
       let e = are.input_is in let less = input_left mine 1 ps a.known.items q v at theirs in omega (arith, e, less, first)
 
-  pub input_assembled : (a b : Assembly) (q : Quantifier) (v : ℕ) → IsDistinct nat_eq (variables ps) → AreAssembled mine ps kept removed a
+  pub input_assembled : (a b : Assembly) (q : Quantifier) (v : ℕ) → IsDistinct nat_eq (variables ps) → AreAssembled mine ps kept removed is_plain a
       → slice_get ps (length a.known.items) ≡ Some (q, v) → is_quantifier q mine ≡ false → AddsInput a b
-      → AreAssembled mine ps kept removed b
+      → AreAssembled mine ps kept removed is_plain b
   input_assembled a b q v distinct are at theirs adds =
       let gates_of : Work → Built = λ w. w.gates in
       let conditions_of : Work → List Wire = λ w. w.conditions.items in
@@ -146,10 +147,10 @@ module _ (mine : Quantifier) (ps : List (Quantifier × ℕ)) (kept removed : Lis
               otherwise = old.otherwise;
               value = λ run s has tells. old.value run s has (tells_less ps a.known.items (plain a.input ∷ []) run s tells);
             }));
-        few =
+        few = λ chains.
             let same : next_of b.work.gates ≡ next_of a.work.gates = ap next_of g in
             let more = cost_known a b q v (plain a.input) distinct at adds.known_is in
-            let few = are.few in
+            let few = are.few chains in
             let first = adds.first_is in omega (arith, same, more, few, first);
       }
     where
@@ -157,8 +158,8 @@ module _ (mine : Quantifier) (ps : List (Quantifier × ℕ)) (kept removed : Lis
       counted n = rw theirs (omega arith)
 
   pub output_assembled : (a b : Assembly) (entries : Entries) (q : Quantifier) (v : ℕ) → AreEntriesOf mine ps kept removed entries
-      → AreAssembled mine ps kept removed a → slice_get ps (length a.known.items) ≡ Some (q, v) → is_quantifier q mine ≡ true
-      → AddsOutput mine ps kept entries v a b → AreAssembled mine ps kept removed b
+      → AreAssembled mine ps kept removed is_plain a → slice_get ps (length a.known.items) ≡ Some (q, v) → is_quantifier q mine ≡ true
+      → AddsOutput mine ps kept is_plain entries v a b → AreAssembled mine ps kept removed is_plain b
   output_assembled a b entries q v of are at my adds =
       let w = adds.wire in
       let is = adds.chosen in
@@ -197,17 +198,17 @@ module _ (mine : Quantifier) (ps : List (Quantifier × ℕ)) (kept removed : Lis
                         ∙ ap (λ (ls : List Literal). are_set (map (wanted mine) ls) s) (get_or_from_slice_get kept i lits [] there));
                   })
             ]);
-        few =
-            let gates = is.few v (with_lists mine 0 removed []) chain in
+        few = λ chains.
+            let gates = is.few chains v (with_lists mine 0 removed []) chain in
             let more = cost_known a b q v w of.distinct at adds.known_is in
-            let few = are.few in
+            let few = are.few chains in
             let first = adds.first_is in omega (arith, gates, more, few, first);
       }
     where
       counted : (n : ℕ) → n ≡ cond (is_quantifier q mine) n (suc n)
       counted n = rw my refl
 
-  pub none_assembled : (inputs : ℕ) (a : Assembly) → IsUnassembled inputs a → AreAssembled mine ps kept removed a
+  pub none_assembled : (inputs : ℕ) (a : Assembly) → IsUnassembled inputs a → AreAssembled mine ps kept removed is_plain a
   none_assembled inputs a is =
       let none = is.none in
       let first : Built → ℕ = λ b. b.first in
@@ -220,7 +221,7 @@ module _ (mine : Quantifier) (ps : List (Quantifier × ℕ)) (kept removed : Lis
         input_is = is.input_is ∙ (sym (no_next 1 ps) ∙ ap (next_input mine 1 ps) (sym none));
         outputs_are = is.no_outputs ∙ (sym (no_outputs ps) ∙ ap (outputs_of mine ps) (sym none));
         decided = λ o h. absurd (subst (λ (os : List (ℕ × Wire)). o ∈ os) is.no_outputs h);
-        few = (let e : next_of a.work.gates ≡ a.first + 0 = ap next_of is.unused.none in omega (arith, e));
+        few = λ chains. (let e : next_of a.work.gates ≡ a.first + 0 = ap next_of is.unused.none in omega (arith, e));
       }
     where
       no_inputs : (n : ℕ) (ps : List (Quantifier × ℕ)) → AreInputs mine n ps []
@@ -234,6 +235,21 @@ module _ (mine : Quantifier) (ps : List (Quantifier × ℕ)) (kept removed : Lis
       no_outputs : (ps : List (Quantifier × ℕ)) → outputs_of mine ps [] ≡ []
       no_outputs [] = refl
       no_outputs (p ∷ ps) = refl
+
+-- the assembly of plain chains is one
+pub assembled_either : (mine : Quantifier) (ps : List (Quantifier × ℕ)) (kept removed : List (List Literal)) (a : Assembly)
+    → AreAssembled mine ps kept removed true a → AreAssembled mine ps kept removed false a
+assembled_either mine ps kept removed a are = record {
+  first_is = are.first_is;
+  room = are.room;
+  below = are.below;
+  known = are.known;
+  inputs = are.inputs;
+  input_is = are.input_is;
+  outputs_are = are.outputs_are;
+  decided = are.decided;
+  few = λ chains. absurd (cc chains);
+}
 
 pub on_ok : {E : Type 0} {P Q : Type 0} (r : Result ⊤ E) → (P → Q) → OnOk r P → OnOk r Q
 on_ok (Ok u) f p = f p
@@ -280,7 +296,7 @@ outputs_below mine n ((q, v) ∷ ps) (w ∷ ws) all =
     by here later false = later
 
 pub assembled_computes : (mine : Quantifier) (ps : List (Quantifier × ℕ)) (kept removed : List (List Literal)) (a : Assembly) (c : Circuit)
-    → IsDistinct nat_eq (variables ps) → length a.known.items ≡ length ps → AreAssembled mine ps kept removed a
+    → IsDistinct nat_eq (variables ps) → length a.known.items ≡ length ps → AreAssembled mine ps kept removed false a
     → c.inputs ≡ variables_of (opponent mine) ps → a.first ≡ length c.inputs + 1 → c.outputs ≡ a.outputs.items
     → c.gates ≡ a.work.gates.gates
     → StandBelow a.work.gates.first c.gates → Computes mine ps (decisions_by mine kept removed) c

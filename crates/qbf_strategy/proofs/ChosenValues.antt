@@ -13,7 +13,7 @@ use Rattle.qbf_strategy.specs.Conditions.{AreConditions, IsDecided, IsReady, Sce
 use Rattle.qbf_strategy.specs.Costs.{cost, cost_among}
 use Rattle.qbf_strategy.specs.Decisions.{are_set, decided, decisions_by, value_in, wanted}
 use Rattle.qbf_strategy.proofs.ChainedEntries.{chain_none, chain_some, chain_within}
-use Rattle.qbf_strategy.proofs.ConditionGates.{grows_same, grows_then, values_before}
+use Rattle.aiger.proofs.KeptGates.{grows_same, grows_then, values_before}
 
 pub chosen_first : (at : Scene) (es : List Entry) (last : ℕ) (otherwise : Bool) (b : Built) (conditions : List Wire) (w : Wire)
     → AreConditions at b conditions → w ≡ constant otherwise → 0 < next_of b → IsChosenAfter at es last last otherwise b b conditions w
@@ -55,8 +55,9 @@ chosen_next at es last number next otherwise old now new before after w more e s
 }
 
 pub chosen_all : (at : Scene) (es : List Entry) (last number : ℕ) (otherwise : Bool) (old new : Built) (conditions : List Wire) (w : Wire)
-    → number ≤ 0 → IsChosenAfter at es last number otherwise old new conditions w → IsChosen at es last old new conditions w
-chosen_all at es last number otherwise old new conditions w none chosen = record {
+    → number ≤ 0 → IsChosenAfter at es last number otherwise old new conditions w → (plain : Bool)
+    → IsChosen at es last plain old new conditions w
+chosen_all at es last number otherwise old new conditions w none chosen plain = record {
   grows = chosen.grows;
   known = chosen.known;
   below = chosen.below;
@@ -64,7 +65,7 @@ chosen_all at es last number otherwise old new conditions w none chosen = record
   value = λ v said chain run s has tells.
       let left = chosen.rest v said chain in
       sym (chain_none (fires at s) v (value_at run w) es number left.left (omega arith) left.chain) ∙ left.value run s has tells;
-  few = λ v said chain. let left = chosen.rest v said chain in let few = left.few in omega (arith, few);
+  few = λ is_plain v said chain. let left = chosen.rest v said chain in let few = left.few in omega (arith, few);
 }
 
 -- ---- the entry that is next

@@ -1,20 +1,17 @@
 -- Gates of conditions, and of what is decided under them.
-use Rattle.std.proofs.Common.{arith, ◌≡◌, ◌<◌, ◌≤◌, ◌+◌, ℕ, zero, suc, Bool, true, false, not, cond, List, [], ◌∷◌, ◌++◌, Some, slice_get}
+use Rattle.std.proofs.Common.{arith, ◌≡◌, ◌<◌, ◌≤◌, ◌+◌, ℕ, zero, suc, Bool, true, false, not, cond, List, [], ◌∷◌, Some, slice_get}
 use Rattle.std.proofs.Common.{refl, sym, ap, subst, ◌∙◌, length, map, drop, inl, inr}
 use Rattle.std.proofs.lemmas.Option.{get_or_from_slice_get, slice_get_cases, slice_get_within}
 use Rattle.std.proofs.Common.{get_or, IsErrAnd, IsErrOf, Result, Err}
 use Rattle.std.proofs.lemmas.Result.{err_from_is_err_and}
-use Rattle.std.proofs.lemmas.Grind.{common_steps}
-use Rattle.std.proofs.lemmas.List.{length-append, append_assoc}
 use Rattle.std.proofs.Math.ListN.{drop_of_length-le}
 use Rattle.qbf_core.specs.Literal.{Literal}
 use Rattle.aiger.specs.Building.{Built, Grows, HasValues, IsBoth, next_of}
-use Rattle.aiger.specs.Circuits.{KeepsGates, both}
-use Rattle.aiger.specs.declared.circuit.Gate.{Gate}
+use Rattle.aiger.specs.Circuits.{both}
 use Rattle.aiger.specs.Wires.{Wire, constant, opposite, value_at}
 use Rattle.aiger.proofs.TrimmedGates.{turned_value, turned_var}
 use Rattle.aiger.proofs.Folds.{constant_value, opposite_value}
-use Rattle.aiger.proofs.KeptGates.{keeps_left}
+use Rattle.aiger.proofs.KeptGates.{grows_same, grows_then, next_grows, values_before}
 use Rattle.qbf_strategy.specs.Decisions.{are_set, wanted}
 use Rattle.qbf_strategy.specs.Assembling.{AllBelow, ArePlaced, Tells, all_true, wires_of}
 use Rattle.aiger.specs.Wires.{turned}
@@ -23,37 +20,12 @@ use Rattle.qbf_strategy.specs.Conditions.{IsEither, KeptFrom, Scene, fires}
 use Rattle.qbf_strategy.specs.declared.placed.Placed.{Placed}
 use Rattle.qbf_strategy.proofs.ToldLiterals.{both_assoc, both_true, drop_at}
 
--- ---- gates that grow
-
-pub grows_same : (b : Built) → Grows b b
-grows_same b = record { same = refl; more = []; grown = grind (arith, common_steps) }
-
-pub grows_then : (a b c : Built) → Grows a b → Grows b c → Grows a c
-grows_then a b c g h = record {
-  same = h.same ∙ g.same;
-  more = g.more ++ h.more;
-  grown = h.grown ∙ (ap (λ (gs : List Gate). gs ++ h.more) g.grown ∙ append_assoc a.gates g.more h.more);
-}
-
-pub next_grows : (a b : Built) → Grows a b → next_of a ≤ next_of b
-next_grows a b g =
-    let count : length b.gates ≡ length a.gates + length g.more = ap length g.grown ∙ length-append a.gates g.more in
-    let same : b.first ≡ a.first = g.same in omega arith
-
-pub values_before : (a b : Built) (run : ℕ → Bool) → Grows a b → HasValues b run → HasValues a run
-values_before a b run g has = record {
-  constant = has.constant;
-  keeps = keeps_left a.first a.gates g.more run
-      (subst (λ (n : ℕ). KeepsGates n (a.gates
-      ++ g.more) run) g.same (subst (λ (gs : List Gate). KeepsGates b.first gs run) g.grown has.keeps));
-}
-
 -- ---- conjunctions
 
 pub below_grown : (a b : Built) (ws : List Wire) → Grows a b → AllBelow (next_of a) ws → AllBelow (next_of b) ws
 below_grown a b ws g all k d less = let one = all k d less in let more = next_grows a b g in omega arith
 
-wire_at : (placed : List Placed) (i : ℕ) (p : Placed) → slice_get placed i ≡ Some p → slice_get (wires_of placed) i ≡ Some p.wire
+pub wire_at : (placed : List Placed) (i : ℕ) (p : Placed) → slice_get placed i ≡ Some p → slice_get (wires_of placed) i ≡ Some p.wire
 wire_at [] i p at = absurd (cc at)
 wire_at (q ∷ placed) zero p at = let e : q ≡ p = cc at in ap (λ (x : Placed). Some x.wire) e
 wire_at (q ∷ placed) (suc i) p at = wire_at placed i p at
@@ -93,7 +65,7 @@ conjunction_next old now new placed i w more p at grows one below is before = re
       let less = slice_get_within (wires_of placed) i p.wire (wire_at placed i p at) in omega (arith, one, count, less);
 }
 
-length_wires : (placed : List Placed) → length (wires_of placed) ≡ length placed
+pub length_wires : (placed : List Placed) → length (wires_of placed) ≡ length placed
 length_wires [] = refl
 length_wires (p ∷ placed) = ap suc (length_wires placed)
 

@@ -11,4 +11,5 @@ pub mod AssembledCircuit
 pub mod FoundPlaces
 pub mod GateCosts
 pub mod ReadyDecisions
+pub mod PathValues
 pub mod TrimmedCircuit

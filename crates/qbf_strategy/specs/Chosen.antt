@@ -1,5 +1,5 @@
 -- What is decided on a variable, as gates, and the wires of a whole prefix.
-use Rattle.std.specs.Prelude.{◌≡◌, ℕ, suc, ◌+◌, ◌++◌, ◌<◌, ◌≤◌, take, Some, slice_get, Bool, false, if◌then◌else◌, List, [], ◌∷◌, length}
+use Rattle.std.specs.Prelude.{◌≡◌, ℕ, suc, ◌+◌, ◌++◌, ◌<◌, ◌≤◌, take, Some, slice_get, Bool, true, false, if◌then◌else◌, List, [], ◌∷◌, length}
 use Rattle.std.specs.Prelude.{nat_eq}
 use Rattle.std.specs.List.{IsDistinct}
 use Rattle.qbf_core.specs.declared.quantifier.Quantifier.{Quantifier}
@@ -29,15 +29,18 @@ pub record HasChain (at : Scene) (es : List Entry) (last : ℕ) : Type 0 where
   pub chain : Chain es variable last said
   pub ready : AreReady at variable said
 
--- after some gates, the wire has the value that the entries from this one back to the first give their variable
-pub record IsChosen (at : Scene) (es : List Entry) (last : ℕ) (old new : Built) (conditions : List Wire) (w : Wire) : Type 0 where
+-- after some gates, few if they are a plain chain, the wire has the value that the entries from this one back to the first give their
+-- variable
+pub record IsChosen (at : Scene) (es : List Entry) (last : ℕ) (is_plain : Bool) (old new : Built) (conditions : List Wire) (w : Wire)
+    : Type 0 where
   pub grows : Grows old new
   pub known : AreConditions at new conditions
   pub below : w.var < next_of new
   pub otherwise : Bool
   pub value : (v : ℕ) (said : Sayings) → Chain es v last said → (run : ℕ → Bool) (s : List Literal) → HasValues new run
       → Tells at.ps at.ws run s → value_at run w ≡ evaluated (fires at s) v otherwise said
-  pub few : (v : ℕ) (said : Sayings) → Chain es v last said → next_of new ≤ next_of old + cost_among at.kept (v ∷ []) said
+  pub few : is_plain ≡ true → (v : ℕ) (said : Sayings) → Chain es v last said
+      → next_of new ≤ next_of old + cost_among at.kept (v ∷ []) said
 
 -- what is left of the literals, the value that the others give, and the gates that they took
 pub record IsLeft (at : Scene) (es : List Entry) (number : ℕ) (otherwise : Bool) (old now : Built) (w : Wire) (v : ℕ)
@@ -94,8 +97,9 @@ pub record AreEntriesOf (mine : Quantifier) (ps : List (Quantifier × ℕ)) (kep
   pub few : length removed ≤ length kept
   pub sees : SeesBefore ps (decisions_by mine kept removed)
 
--- gates and wires for the first variables of a prefix
-pub record AreAssembled (mine : Quantifier) (ps : List (Quantifier × ℕ)) (kept removed : List (List Literal)) (a : Assembly) : Type 0 where
+-- gates, few if they are plain chains, and wires for the first variables of a prefix
+pub record AreAssembled (mine : Quantifier) (ps : List (Quantifier × ℕ)) (kept removed : List (List Literal)) (is_plain : Bool)
+    (a : Assembly) : Type 0 where
   pub first_is : a.work.gates.first ≡ a.first
   pub room : a.first ≤ 2147483648
   pub below : AllBelow (next_of a.work.gates) a.known.items
@@ -104,7 +108,7 @@ pub record AreAssembled (mine : Quantifier) (ps : List (Quantifier × ℕ)) (kep
   pub input_is : a.input ≡ next_input mine 1 ps a.known.items
   pub outputs_are : a.outputs.items ≡ outputs_of mine ps a.known.items
   pub decided : (o : ℕ × Wire) → o ∈ a.outputs.items → IsOutput ps a.known.items (decisions_by mine kept removed) a.work.gates o
-  pub few : next_of a.work.gates ≤ a.first
+  pub few : is_plain ≡ true → next_of a.work.gates ≤ a.first
       + cost_among kept (take (length a.known.items) (variables ps)) (with_lists mine 0 removed [])
 
 -- the next variable has the next input
@@ -117,12 +121,13 @@ pub record AddsInput (a b : Assembly) : Type 0 where
   pub first_is : b.first ≡ a.first
 
 -- the next variable has an output with what is chosen
-pub record AddsOutput (mine : Quantifier) (ps : List (Quantifier × ℕ)) (kept : List (List Literal)) (entries : Entries) (name : ℕ)
-    (a b : Assembly) : Type 0 where
+pub record AddsOutput (mine : Quantifier) (ps : List (Quantifier × ℕ)) (kept : List (List Literal)) (is_plain : Bool)
+    (entries : Entries) (name : ℕ) (a b : Assembly) : Type 0 where
   pub last : ℕ
   pub last_is : slice_get entries.heads.items (length a.known.items) ≡ Some last
   pub wire : Wire
-  pub chosen : IsChosen (scene mine ps a.known.items kept) entries.entries.items last a.work.gates b.work.gates b.work.conditions.items wire
+  pub chosen : IsChosen (scene mine ps a.known.items kept) entries.entries.items last is_plain a.work.gates b.work.gates
+      b.work.conditions.items wire
   pub known_is : b.known.items ≡ a.known.items ++ wire ∷ []
   pub outputs_are : b.outputs.items ≡ a.outputs.items ++ (name, wire) ∷ []
   pub input_is : b.input ≡ a.input

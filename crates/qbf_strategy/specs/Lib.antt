@@ -7,3 +7,4 @@ pub mod Chains
 pub mod Costs
 pub mod Chosen
 pub mod Laws
+pub mod Paths

@@ -1,7 +1,7 @@
 //! The circuit of decisions.
 
 ghost use Rattle.std.specs.Prelude.{◌≡◌, ◌≤◌, ◌<◌, ◌+◌, ℕ, [], List, IfOk, OnOk, length, nat_eq};
-ghost use Rattle.std.specs.Prelude.{Some, slice_get, ◌++◌, ◌∷◌, if◌then◌else◌};
+ghost use Rattle.std.specs.Prelude.{Some, true, false, slice_get, ◌++◌, ◌∷◌, if◌then◌else◌};
 ghost use Rattle.std.specs.Result.{IsErrOf};
 ghost use Rattle.qbf_core.specs.Blocks.{is_quantifier, pairs};
 ghost use Rattle.aiger.specs.Building.{next_of};
@@ -17,6 +17,7 @@ ghost use Rattle.qbf_strategy.specs.Winning.{opponent, variables_of};
 
 use crate::chosen::chosen;
 use crate::conditions::Work;
+use crate::counts::Counts;
 use crate::decisions::Decisions;
 use crate::entries::Entries;
 use crate::placed::{Here, Task};
@@ -118,15 +119,16 @@ impl Assembly {
     fn add_output(&mut self, task: &Task, entries: &Entries, name: Var) -> Result<(), GateFault>
         requires assembled { AreAssembled task.now.mine
             (pairs task.now.prefix.now) task.now.decisions.now.kept.whole
-            task.now.decisions.now.removed.whole self.old }
+            task.now.decisions.now.removed.whole task.now.plain self.old }
         requires place { length self.old.known.items < length entries.now.heads.items }
         requires chain { (last : ℕ)
             → slice_get entries.now.heads.items (length self.old.known.items) ≡ Some last
             → HasChain (scene task.now.mine (pairs task.now.prefix.now) self.old.known.items
             task.now.decisions.now.kept.whole) entries.now.entries.items last }
         ensures adds { OnOk result (AddsOutput task.now.mine (pairs task.now.prefix.now)
-            task.now.decisions.now.kept.whole entries.now name self.old self.new) }
-        ensures long { IsErrOf result GateFault.TooLong → (last v : ℕ) (said : Sayings)
+            task.now.decisions.now.kept.whole task.now.plain entries.now name self.old self.new) }
+        ensures long { IsErrOf result GateFault.TooLong → task.now.plain ≡ true
+            → (last v : ℕ) (said : Sayings)
             → slice_get entries.now.heads.items (length self.old.known.items) ≡ Some last
             → Chain entries.now.entries.items v last said
             → 2147483648 ≤ next_of self.old.work.gates
@@ -150,7 +152,7 @@ impl Assembly {
     fn add_variable(&mut self, task: &Task, entries: &Entries) -> Result<(), GateFault>
         requires assembled { AreAssembled task.now.mine
             (pairs task.now.prefix.now) task.now.decisions.now.kept.whole
-            task.now.decisions.now.removed.whole self.old }
+            task.now.decisions.now.removed.whole task.now.plain self.old }
         requires entries { AreEntriesOf task.now.mine (pairs task.now.prefix.now)
             task.now.decisions.now.kept.whole task.now.decisions.now.removed.whole entries.now }
         requires inputs { self.old.first
@@ -159,12 +161,12 @@ impl Assembly {
         ensures assembled { OnOk result
             (AreAssembled task.now.mine
             (pairs task.now.prefix.now) task.now.decisions.now.kept.whole
-            task.now.decisions.now.removed.whole self.new) }
+            task.now.decisions.now.removed.whole task.now.plain self.new) }
         ensures count { OnOk result (length self.new.known.items
             ≡ length self.old.known.items + 1) }
         ensures first { OnOk result (self.new.first ≡ self.old.first) }
-        ensures long { IsErrOf result GateFault.TooLong → 2147483648 ≤ self.old.first
-            + cost_all task.now.decisions.now.kept.whole
+        ensures long { IsErrOf result GateFault.TooLong → task.now.plain ≡ true
+            → 2147483648 ≤ self.old.first + cost_all task.now.decisions.now.kept.whole
             (with_lists task.now.mine 0 task.now.decisions.now.removed.whole []) }
     {
         let (quantifier, name) = task.prefix.pair(self.known.len());
@@ -190,10 +192,10 @@ fn assemble(
         ≡ length (variables_of (opponent task.now.mine) (pairs task.now.prefix.now)) }
     ensures assembled { IfOk result
         (AreAssembled task.now.mine (pairs task.now.prefix.now) task.now.decisions.now.kept.whole
-        task.now.decisions.now.removed.whole) }
+        task.now.decisions.now.removed.whole task.now.plain) }
     ensures count { IfOk result (λ a. length a.known.items ≡ length (pairs task.now.prefix.now)) }
     ensures first { IfOk result (λ a. a.first ≡ inputs + 1) }
-    ensures long { IsErrOf result GateFault.TooLong → 2147483647 ≤ inputs
+    ensures long { IsErrOf result GateFault.TooLong → task.now.plain ≡ true → 2147483647 ≤ inputs
         + cost_all task.now.decisions.now.kept.whole
         (with_lists task.now.mine 0 task.now.decisions.now.removed.whole []) }
 {
@@ -202,6 +204,43 @@ fn assemble(
         assembly.add_variable(task, entries)?;
     }
     Ok(assembly)
+}
+
+/// The same, by paths, or by plain chains if AIGER has no numbers for the gates that were put so.
+fn assemble_shared(
+    alloc: Global,
+    task: &Task,
+    entries: &Entries,
+    inputs: usize,
+) -> Result<Assembly, GateFault>
+    requires entries { AreEntriesOf task.now.mine (pairs task.now.prefix.now)
+        task.now.decisions.now.kept.whole task.now.decisions.now.removed.whole entries.now }
+    requires inputs { inputs
+        ≡ length (variables_of (opponent task.now.mine) (pairs task.now.prefix.now)) }
+    ensures assembled { IfOk result
+        (AreAssembled task.now.mine (pairs task.now.prefix.now) task.now.decisions.now.kept.whole
+        task.now.decisions.now.removed.whole false) }
+    ensures count { IfOk result (λ a. length a.known.items ≡ length (pairs task.now.prefix.now)) }
+    ensures first { IfOk result (λ a. a.first ≡ inputs + 1) }
+    ensures long { IsErrOf result GateFault.TooLong → 2147483647 ≤ inputs
+        + cost_all task.now.decisions.now.kept.whole
+        (with_lists task.now.mine 0 task.now.decisions.now.removed.whole []) }
+{
+    let by_paths = Task {
+        plain: false,
+        ..*task
+    };
+    match assemble(alloc, &by_paths, entries, inputs) {
+        Ok(assembly) => Ok(assembly),
+        Err(GateFault::NoMemory) => Err(GateFault::NoMemory),
+        Err(GateFault::TooLong) => {
+            let by_chains = Task {
+                plain: true,
+                ..*task
+            };
+            assemble(alloc, &by_chains, entries, inputs)
+        }
+    }
 }
 
 /// The circuit of decisions, with all gates that were put.
@@ -223,14 +262,17 @@ fn whole_circuit(
 {
     let inputs = variables_of(alloc, prefix, opponent(mine))?;
     let places = Places::new(alloc, prefix)?;
+    let counts = Counts::new(alloc, prefix, &places, decisions)?;
     let task = Task {
         mine,
         prefix,
         places: &places,
         decisions,
+        counts: &counts,
+        plain: false,
     };
     let entries = Entries::new(alloc, &task)?;
-    let assembly = assemble(alloc, &task, &entries, inputs.len())?;
+    let assembly = assemble_shared(alloc, &task, &entries, inputs.len())?;
     Ok(Circuit {
         inputs,
         outputs: assembly.outputs,

@@ -12,6 +12,7 @@ ghost use Rattle.qbf_strategy.specs.Conditions.{IsDecided, IsEither, IsReady, Is
 ghost use Rattle.qbf_strategy.specs.Costs.{cost};
 
 use crate::entries::Entry;
+use crate::path::Path;
 use crate::placed::{Here, Placed, place_literals};
 use aiger::{Builder, GateFault, Wire};
 use std::alloc::{AllocError, Global};
@@ -25,10 +26,14 @@ pub struct Work {
     pub conditions: Vec<Wire>,
     /// The literals of the condition that is being built.
     pub placed: Vec<Placed>,
+    /// The path at whose end the wire of a variable is changed.
+    pub path: Path,
+    /// How many literals of conditions were looked at for paths.
+    pub looked_at: usize,
 }
 
 /// The wire of the conjunction of wires.
-fn conjunction(gates: &mut Builder, placed: &[Placed]) -> Result<Wire, GateFault>
+pub fn conjunction(gates: &mut Builder, placed: &[Placed]) -> Result<Wire, GateFault>
     requires { AllBelow (next_of gates.old) (wires_of placed.now) }
     ensures value { IfOk result (IsConjunction gates.old gates.new (wires_of placed.now)) }
     ensures long { IsErrOf result GateFault.TooLong
@@ -42,7 +47,12 @@ fn conjunction(gates: &mut Builder, placed: &[Placed]) -> Result<Wire, GateFault
 }
 
 /// The wire that has this value if a condition holds, and else that of another wire.
-fn either(gates: &mut Builder, condition: Wire, value: bool, after: Wire) -> Result<Wire, GateFault>
+pub fn either(
+    gates: &mut Builder,
+    condition: Wire,
+    value: bool,
+    after: Wire,
+) -> Result<Wire, GateFault>
     requires condition { condition.var < next_of gates.old }
     requires after { after.var < next_of gates.old }
     ensures value { IfOk result (IsEither gates.old gates.new condition value after) }
@@ -63,6 +73,8 @@ impl Work {
             gates: Builder::new(alloc, first),
             conditions: vec![in alloc; Wire::constant(false); decisions]?,
             placed: Vec::new(alloc),
+            path: Path::new(alloc),
+            looked_at: 0,
         })
     }
 

@@ -15,9 +15,11 @@
 mod assembling;
 mod chosen;
 mod conditions;
+mod counts;
 mod decisions;
 mod entries;
 mod laws;
+mod path;
 mod placed;
 mod places;
 

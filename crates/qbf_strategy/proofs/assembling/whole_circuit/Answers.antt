@@ -15,8 +15,8 @@ returns-clause-computes c =
     (c.in_ok-inputs.ensures ∙ ap (λ (q : Quantifier). variables_of q (pairs c.args.prefix.now)) c.opponent.ensures) (search rules) refl
     c.into_gates.ensures.gates c.into_gates.ensures.below
 
-pub new-requires-2 : goal.new-requires-2
-new-requires-2 c = are_bound c.args.mine _ _ _ c.requires.few c.requires.sees
+pub new-requires-3 : goal.new-requires-3
+new-requires-3 c = are_bound c.args.mine _ _ _ c.requires.few c.requires.sees
 
 pub returns-in_err-entries-clause-long : goal.returns-in_err-entries-clause-long
 returns-in_err-entries-clause-long c = λ is. circuit_too_long c.args.mine _ _ _ c.requires.few (c.in_err-entries.ensures.long
