@@ -18,11 +18,11 @@ use Rattle.aiger.specs.Wires.{Wire}
 step : (i : ℕ) → i < 5 → 5 - i ≡ suc (5 - (i + 1))
 step i less = omega arith
 
-last_group : (n x : ℕ) → x < 128 → groups (suc n) x ≡ x ∷ []
+pub last_group : (n x : ℕ) → x < 128 → groups (suc n) x ≡ x ∷ []
 unfolding groups
 last_group n x less = grind (arith, common_steps)
 
-next_group : (n x : ℕ) → 128 ≤ x → groups (suc n) x ≡ (128 + x % 128) ∷ groups n (x / 128)
+pub next_group : (n x : ℕ) → 128 ≤ x → groups (suc n) x ≡ (128 + x % 128) ∷ groups n (x / 128)
 unfolding groups
 next_group n x more = grind (arith, common_steps)
 

@@ -1,10 +1,10 @@
 -- Gates of choices between two wires.
-use Rattle.std.proofs.Common.{arith, ◌≡◌, ◌<◌, ◌≤◌, ◌+◌, ◌-◌, ℕ, zero, suc, Bool, true, false, not, cond, List, [], ◌∷◌, ◌++◌, Some, slice_get}
+use Rattle.std.proofs.Common.{arith, ◌≡◌, ◌<◌, ◌≤◌, ◌+◌, ◌-◌, ℕ, zero, suc, Bool, true, false, not, cond, List, [], ◌∷◌, Some, slice_get}
 use Rattle.std.proofs.Common.{refl, sym, ap, subst, ◌∙◌, length}
 use Rattle.std.proofs.lemmas.Grind.{common_steps}
-use Rattle.aiger.specs.Building.{AreGates, Built, Grows, HasValues, IsBoth, next_of}
+use Rattle.aiger.specs.Building.{AreGates, Built, Grows, IsBoth, next_of}
 use Rattle.aiger.specs.Choosing.{AreBelow, ChoosesAmong, IsChoice, IsChosen, IsGateOf, branch_value}
-use Rattle.aiger.specs.Circuits.{Gate, KeepsGates, StandBelow, both, gate_value}
+use Rattle.aiger.specs.Circuits.{Gate, StandBelow, both, gate_value}
 use Rattle.aiger.specs.Wires.{Wire, constant, opposite, turned, value_at}
 use Rattle.aiger.specs.declared.choosing.Branches.{Branches}
 use Rattle.aiger.proofs.Folds.{constant_value, opposite_value}

@@ -164,6 +164,7 @@ trimmed_is c d ws inputs is same =
         gates = subst (λ (n : ℕ). StandBelow n d.gates) (sym first) is.sound.below;
         outputs = subst (λ (n : ℕ). AllByRecursion (λ o. o.1.var < n + length d.gates) d.outputs) (sym first)
             (below_same (suc (length c.inputs)) c.gates d.gates c.outputs d.outputs same);
+        few = subst (λ (n : ℕ). n + length d.gates ≤ 2147483648) (sym first) is.sound.few;
       };
       values = λ run other has others agree.
           values_same (suc (length c.inputs)) c.gates d.gates c.outputs d.outputs run other same has

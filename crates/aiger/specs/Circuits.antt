@@ -1,5 +1,5 @@
 -- Circuits of AND gates without latches, as AIGER writes them (Biere 2007; version 1.9: Biere, Heljanko, Wieringa 2011).
-use Rattle.std.specs.Prelude.{◌≡◌, ℕ, suc, ◌+◌, ◌<◌, Bool, false, if◌then◌else◌, List, [], ◌∷◌, length}
+use Rattle.std.specs.Prelude.{◌≡◌, ℕ, suc, ◌+◌, ◌<◌, ◌≤◌, Bool, false, if◌then◌else◌, List, [], ◌∷◌, length}
 use Rattle.std.specs.List.{AllByRecursion}
 use Rattle.aiger.specs.Wires.{Wire, value_at}
 pub use Rattle.aiger.specs.declared.circuit.Gate.{Gate}
@@ -41,7 +41,9 @@ first_gate c = suc (length c.inputs)
 abbrev pub IsRun : Circuit → (ℕ → Bool) → Type 0
 IsRun c run = AreValues (first_gate c) c.gates run
 
--- a circuit that AIGER takes: each gate stands on variables before it, and the outputs are among the variables
+-- A circuit that AIGER takes: each gate stands on variables before it, the outputs are among the variables, and the literals of all variables
+-- fit in 32 bits.
 pub record IsOrdered (c : Circuit) : Type 0 where
   pub gates : StandBelow (first_gate c) c.gates
   pub outputs : AllByRecursion (λ o. o.1.var < first_gate c + length c.gates) c.outputs
+  pub few : first_gate c + length c.gates ≤ 2147483648

@@ -146,7 +146,7 @@ impl Builder {
     }
 
     /// The wire of a choice, by at most three gates.
-    fn join(&mut self, on: Wire, branches: Branches) -> Result<Wire, GateFault>
+    fn put_choice(&mut self, on: Wire, branches: Branches) -> Result<Wire, GateFault>
         requires on { on.var < next_of self.old }
         requires below { AreBelow (next_of self.old) branches }
         ensures { IfOk result (IsChosen self.old self.new on branches) }
@@ -172,9 +172,9 @@ impl Builder {
             return Ok(branches.yes);
         }
         if branches.has_true() {
-            let wire = self.join(on, branches.turned(true))?;
+            let wire = self.put_choice(on, branches.turned(true))?;
             return Ok(wire.opposite());
         }
-        self.join(on, branches)
+        self.put_choice(on, branches)
     }
 }

@@ -5,8 +5,7 @@ ghost use Rattle.std.specs.Prelude.{◌≤◌, IfSome};
 use std::alloc::{AllocError, Global};
 
 /// A hash table of entries from 1 on. It promises nothing of what it gives: whoever asks compares
-/// an
-/// entry before it is taken, so any table is right, and a good one is fast.
+/// an entry before it is taken, so any table is right, and a good one is fast.
 #[derive(Drop)]
 pub struct Slots {
     /// An entry, or 0 for none. The length is 0 or a power of two.

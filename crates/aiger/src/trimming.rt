@@ -169,8 +169,7 @@ fn trim_gates(alloc: Global, circuit: &Circuit, needed: &[bool]) -> Result<Trimm
 /// # Errors
 /// If an allocation fails.
 pub fn trimmed(alloc: Global, circuit: Circuit) -> Result<Circuit, AllocError>
-    requires ordered { IsOrdered circuit }
-    requires few { first_gate circuit + length circuit.gates ≤ 2147483648 }
+    requires { IsOrdered circuit }
     ensures { IfOk result (IsSameCircuit circuit) }
 {
     let needed = needed(alloc, &circuit)?;

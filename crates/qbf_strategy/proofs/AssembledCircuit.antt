@@ -299,8 +299,9 @@ pub assembled_computes : (mine : Quantifier) (ps : List (Quantifier × ℕ)) (ke
     → IsDistinct nat_eq (variables ps) → length a.known.items ≡ length ps → AreAssembled mine ps kept removed false a
     → c.inputs ≡ variables_of (opponent mine) ps → a.first ≡ length c.inputs + 1 → c.outputs ≡ a.outputs.items
     → c.gates ≡ a.work.gates.gates
-    → StandBelow a.work.gates.first c.gates → Computes mine ps (decisions_by mine kept removed) c
-assembled_computes mine ps kept removed a c distinct count are inputs first outputs gates stands =
+    → StandBelow a.work.gates.first c.gates → a.work.gates.first + length c.gates ≤ 2147483648
+    → Computes mine ps (decisions_by mine kept removed) c
+assembled_computes mine ps kept removed a c distinct count are inputs first outputs gates stands few =
     let os_are : c.outputs ≡ outputs_of mine ps a.known.items = outputs ∙ are.outputs_are in
     let first_is : a.work.gates.first ≡ suc (length c.inputs) = are.first_is ∙ (first ∙ omega arith) in
     let next_is : next_of a.work.gates ≡ suc (length c.inputs) + length c.gates = (let e = ap length gates in omega arith) in
@@ -312,6 +313,7 @@ assembled_computes mine ps kept removed a c distinct count are inputs first outp
         outputs = subst (λ (n : ℕ). AllByRecursion (λ o. o.1.var < n) c.outputs) next_is
             (subst (λ (os : List (ℕ × Wire)). AllByRecursion (λ o. o.1.var < next_of a.work.gates) os) (sym os_are)
             (outputs_below mine (next_of a.work.gates) ps a.known.items are.below));
+        few = subst (λ (n : ℕ). n + length c.gates ≤ 2147483648) first_is few;
       };
       decides = λ o h.
           let is = are.decided o (subst (λ (os : List (ℕ × Wire)). o ∈ os) outputs h) in (

@@ -5,7 +5,6 @@ ghost use Rattle.std.specs.Prelude.{Some, true, false, slice_get, ◌++◌, ◌�
 ghost use Rattle.std.specs.Result.{IsErrOf};
 ghost use Rattle.qbf_core.specs.Blocks.{is_quantifier, pairs};
 ghost use Rattle.aiger.specs.Building.{next_of};
-ghost use Rattle.aiger.specs.Circuits.{first_gate};
 ghost use Rattle.qbf_strategy.specs.Chains.{Chain, Sayings, with_lists};
 ghost use Rattle.qbf_strategy.specs.Chosen.{AddsInput, AddsOutput, AreAssembled, AreEntriesOf};
 ghost use Rattle.qbf_strategy.specs.Chosen.{HasChain, IsUnassembled};
@@ -255,7 +254,6 @@ fn whole_circuit(
         (decisions_by mine decisions.now.kept.whole decisions.now.removed.whole) }
     ensures computes { IfOk result (λ c. Computes mine (pairs prefix.now)
         (decisions_by mine decisions.now.kept.whole decisions.now.removed.whole) c) }
-    ensures few { IfOk result (λ c. first_gate c + length c.gates ≤ 2147483648) }
     ensures long { IsErrOf result GateFault.TooLong → 2147483647
         ≤ length (variables_of (opponent mine) (pairs prefix.now))
         + size (decisions_by mine decisions.now.kept.whole decisions.now.removed.whole) }

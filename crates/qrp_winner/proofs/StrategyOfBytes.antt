@@ -8,7 +8,7 @@ use Rattle.qrp_check.specs.Verdict.{is_sat}
 use Rattle.qrp_check.specs.declared.verdict.Fault.{Fault}
 use Rattle.std.proofs.Common.{IsErrOf}
 use Rattle.qrp_winner.specs.Sizes.{IsTooLong}
-use Rattle.qrp_winner.specs.Strategies.{HasReason, IsOfWinner, winner}
+use Rattle.qrp_winner.specs.Strategies.{HasReason, HasWinner, winner}
 use Rattle.qrp_winner.specs.declared.fault.StrategyFault.{StrategyFault}
 use Rattle.qrp_winner.specs.declared.fault.StrategyFault.TheVariants.{Check, NoCircuit}
 use Rattle.qrp_winner.specs.declared.strategy.Strategy.{Strategy}
@@ -16,7 +16,7 @@ use Rattle.qrp_winner.specs.declared.strategy.Strategy.{Strategy}
 pub of_winner : (formula trace : Option (List ℕ)) (f : Qbf) (result : Result Strategy StrategyFault)
     → IfSome (formulas.reads_bytes formula) (λ r. r ≡ Ok f)
     → IfOk result (λ s. (d : Derivation) × WasReadFrom trace d × (s.truth ≡ is_sat d.result) × IsWinningCircuit (winner s.truth) f s.circuit)
-    → IfSome formula (λ a. IfSome trace (λ b. IfOk result (IsOfWinner a b)))
+    → HasWinner formula trace result
 of_winner None trace f result reads wins = tt
 of_winner (Some a) None f result reads wins = tt
 of_winner (Some a) (Some b) f (Err e) reads wins = tt
@@ -37,3 +37,8 @@ pub not_too_long : (formula trace : Option (List ℕ)) (e : Fault) → HasReason
 not_too_long None trace e = tt
 not_too_long (Some a) None e = tt
 not_too_long (Some a) (Some b) e = λ is. absurd (cc is)
+
+pub no_winner : (formula trace : Option (List ℕ)) (e : Fault) → HasWinner formula trace (Err (Check e))
+no_winner None trace e = tt
+no_winner (Some a) None e = tt
+no_winner (Some a) (Some b) e = tt

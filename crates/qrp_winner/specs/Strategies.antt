@@ -42,10 +42,16 @@ Follows (Err fault) result = result ≡ Err (Check fault)
 abbrev pub HasReason : Option (List ℕ) → Option (List ℕ) → Result Strategy StrategyFault → Type 0
 HasReason formula trace result = IfSome formula (λ a. IfSome trace (λ b. IsErrOf result NoCircuit → AreTooLong a b))
 
--- the result follows a verdict on both texts; once a trace was read, nothing is taken past its result word but what is held
+-- the circuit of a result is a strategy by which the winner wins, if the bytes of both texts are known
+abbrev pub HasWinner : Option (List ℕ) → Option (List ℕ) → Result Strategy StrategyFault → Type 0
+HasWinner formula trace result = IfSome formula (λ a. IfSome trace (λ b. IfOk result (IsOfWinner a b)))
+
+-- The result follows a verdict on both texts, and its circuit wins. Once a trace was read, nothing is taken past its result word but what is
+-- held.
 abbrev pub IsOfVerdict : Rules → SourceCall → SourceCall → Result Strategy StrategyFault → Type 0
 IsOfVerdict rules formula trace result = (verdict : Result Verified Fault) × IsChecked rules formula trace verdict
     × StopsOnceRead trace.bytes trace.rest verdict × Follows verdict result × HasReason formula.bytes trace.bytes result
+    × HasWinner formula.bytes trace.bytes result
 
 -- the result for a formula that was read
 pub record IsStrategyOf (rules : Rules) (f : Qbf) (trace : SourceCall) (result : Result Strategy StrategyFault) : Type 0 where

@@ -9,4 +9,4 @@ returns-in-Some c =
     (some_has _ c.in_ok-outputs.field-0 c.in-Some.outputs c.in-Some.is c.in_ok-outputs.ensures)
 
 pub returns-in-None : goal.returns-in-None
-returns-in-None c = same_itself c.args.circuit c.requires.ordered
+returns-in-None c = same_itself c.args.circuit c.requires

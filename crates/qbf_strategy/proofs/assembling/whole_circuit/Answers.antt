@@ -13,7 +13,7 @@ returns-clause-computes c =
     assembled_computes c.args.mine _ c.args.decisions.now.kept.whole c.args.decisions.now.removed.whole c.in_ok-assembly.assembly _
     c.in_ok-entries.ensures.sound.distinct c.in_ok-assembly.ensures.count c.in_ok-assembly.ensures.assembled
     (c.in_ok-inputs.ensures ∙ ap (λ (q : Quantifier). variables_of q (pairs c.args.prefix.now)) c.opponent.ensures) (search rules) refl
-    c.into_gates.ensures.gates c.into_gates.ensures.below
+    c.into_gates.ensures.gates c.into_gates.ensures.below c.into_gates.ensures.few
 
 pub new-requires-3 : goal.new-requires-3
 new-requires-3 c = are_bound c.args.mine _ _ _ c.requires.few c.requires.sees
