@@ -55,6 +55,25 @@ def empty_sets(n: int) -> Iterator[Lines]:
     yield ["p qrp 0 0\n1 1 0 0\n2 -1 0 0\n3 0 1 2 0\nr unsat\n"]
 
 
+def bare_prefix(n: int) -> Iterator[Lines]:
+    """n existential variables and no clause."""
+    yield [line("p cnf", n, 0), line("e", range(1, n + 1), 0)]
+    yield ["p qrp 0 0\n1 0 0\nr sat\n"]
+
+
+def two_decisions(n: int) -> Iterator[Lines]:
+    """Two clauses of 100 existential and n universal literals, where the first and all universal ones have opposite signs."""
+    seen, universal = range(2, 101), range(101, n + 101)
+    one, other = line(1, seen, universal, 0), line(-1, seen, [-variable for variable in universal], 0)
+    units = [line(-variable, 0) for variable in seen]
+    yield [line("p cnf", n + 100, 101), line("e", range(1, 101), 0), line("a", universal, 0), one, other, *units]
+    steps = [f"1 {one.strip()} 0\n", line(2, 1, seen, 0, 1, 0), f"3 {other.strip()} 0\n", line(4, -1, seen, 0, 3, 0), line(5, seen, 0, 2, 4, 0)]
+    for variable in seen:
+        last = len(steps)
+        steps += [line(last + 1, -variable, 0, 0), line(last + 2, range(variable + 1, 101), 0, last, last + 1, 0)]
+    yield ["p qrp 0 0\n", *steps, "r unsat\n"]
+
+
 # Numbers of steps
 
 

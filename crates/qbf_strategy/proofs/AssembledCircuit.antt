@@ -236,21 +236,6 @@ module _ (mine : Quantifier) (ps : List (Quantifier × ℕ)) (kept removed : Lis
       no_outputs [] = refl
       no_outputs (p ∷ ps) = refl
 
--- the assembly of plain chains is one
-pub assembled_either : (mine : Quantifier) (ps : List (Quantifier × ℕ)) (kept removed : List (List Literal)) (a : Assembly)
-    → AreAssembled mine ps kept removed true a → AreAssembled mine ps kept removed false a
-assembled_either mine ps kept removed a are = record {
-  first_is = are.first_is;
-  room = are.room;
-  below = are.below;
-  known = are.known;
-  inputs = are.inputs;
-  input_is = are.input_is;
-  outputs_are = are.outputs_are;
-  decided = are.decided;
-  few = λ chains. absurd (cc chains);
-}
-
 pub on_ok : {E : Type 0} {P Q : Type 0} (r : Result ⊤ E) → (P → Q) → OnOk r P → OnOk r Q
 on_ok (Ok u) f p = f p
 on_ok (Err e) f p = p
@@ -295,13 +280,14 @@ outputs_below mine n ((q, v) ∷ ps) (w ∷ ws) all =
     by here later true = (here, later)
     by here later false = later
 
-pub assembled_computes : (mine : Quantifier) (ps : List (Quantifier × ℕ)) (kept removed : List (List Literal)) (a : Assembly) (c : Circuit)
-    → IsDistinct nat_eq (variables ps) → length a.known.items ≡ length ps → AreAssembled mine ps kept removed false a
+pub assembled_computes : (mine : Quantifier) (ps : List (Quantifier × ℕ)) (kept removed : List (List Literal)) (is_plain : Bool) (a : Assembly)
+    (c : Circuit)
+    → IsDistinct nat_eq (variables ps) → length a.known.items ≡ length ps → AreAssembled mine ps kept removed is_plain a
     → c.inputs ≡ variables_of (opponent mine) ps → a.first ≡ length c.inputs + 1 → c.outputs ≡ a.outputs.items
     → c.gates ≡ a.work.gates.gates
     → StandBelow a.work.gates.first c.gates → a.work.gates.first + length c.gates ≤ 2147483648
     → Computes mine ps (decisions_by mine kept removed) c
-assembled_computes mine ps kept removed a c distinct count are inputs first outputs gates stands few =
+assembled_computes mine ps kept removed is_plain a c distinct count are inputs first outputs gates stands few =
     let os_are : c.outputs ≡ outputs_of mine ps a.known.items = outputs ∙ are.outputs_are in
     let first_is : a.work.gates.first ≡ suc (length c.inputs) = are.first_is ∙ (first ∙ omega arith) in
     let next_is : next_of a.work.gates ≡ suc (length c.inputs) + length c.gates = (let e = ap length gates in omega arith) in

@@ -1,7 +1,7 @@
 //! The circuit of decisions.
 
 ghost use Rattle.std.specs.Prelude.{◌≡◌, ◌≤◌, ◌<◌, ◌+◌, ℕ, [], List, IfOk, OnOk, length, nat_eq};
-ghost use Rattle.std.specs.Prelude.{Some, true, false, slice_get, ◌++◌, ◌∷◌, if◌then◌else◌};
+ghost use Rattle.std.specs.Prelude.{Some, true, ◌⊎◌, slice_get, ◌++◌, ◌∷◌, if◌then◌else◌};
 ghost use Rattle.std.specs.Result.{IsErrOf};
 ghost use Rattle.qbf_core.specs.Blocks.{is_quantifier, pairs};
 ghost use Rattle.aiger.specs.Building.{next_of};
@@ -205,77 +205,103 @@ fn assemble(
     Ok(assembly)
 }
 
-/// The same, by paths, or by plain chains if AIGER has no numbers for the gates that were put so.
-fn assemble_shared(
-    alloc: Global,
-    task: &Task,
-    entries: &Entries,
-    inputs: usize,
-) -> Result<Assembly, GateFault>
-    requires entries { AreEntriesOf task.now.mine (pairs task.now.prefix.now)
-        task.now.decisions.now.kept.whole task.now.decisions.now.removed.whole entries.now }
-    requires inputs { inputs
-        ≡ length (variables_of (opponent task.now.mine) (pairs task.now.prefix.now)) }
-    ensures assembled { IfOk result
-        (AreAssembled task.now.mine (pairs task.now.prefix.now) task.now.decisions.now.kept.whole
-        task.now.decisions.now.removed.whole false) }
-    ensures count { IfOk result (λ a. length a.known.items ≡ length (pairs task.now.prefix.now)) }
-    ensures first { IfOk result (λ a. a.first ≡ inputs + 1) }
-    ensures long { IsErrOf result GateFault.TooLong → 2147483647 ≤ inputs
-        + cost_all task.now.decisions.now.kept.whole
-        (with_lists task.now.mine 0 task.now.decisions.now.removed.whole []) }
-{
-    let by_paths = Task {
-        plain: false,
-        ..*task
-    };
-    match assemble(alloc, &by_paths, entries, inputs) {
-        Ok(assembly) => Ok(assembly),
-        Err(GateFault::NoMemory) => Err(GateFault::NoMemory),
-        Err(GateFault::TooLong) => {
-            let by_chains = Task {
-                plain: true,
-                ..*task
-            };
-            assemble(alloc, &by_chains, entries, inputs)
-        }
-    }
+/// The decisions of a player over a prefix.
+#[derive(Clone, Copy)]
+struct Plan<'a> {
+    /// The prefix.
+    prefix: &'a Prefix,
+    /// The quantifier of the player.
+    mine: Quantifier,
+    /// The decisions.
+    decisions: &'a Decisions,
 }
 
-/// The circuit of decisions, with all gates that were put.
-fn whole_circuit(
-    alloc: Global,
-    prefix: &Prefix,
-    mine: Quantifier,
-    decisions: &Decisions,
-) -> Result<Circuit, GateFault>
-    requires few { length decisions.now.removed.whole ≤ length decisions.now.kept.whole }
-    requires sees { SeesBefore (pairs prefix.now)
-        (decisions_by mine decisions.now.kept.whole decisions.now.removed.whole) }
-    ensures computes { IfOk result (λ c. Computes mine (pairs prefix.now)
-        (decisions_by mine decisions.now.kept.whole decisions.now.removed.whole) c) }
-    ensures long { IsErrOf result GateFault.TooLong → 2147483647
-        ≤ length (variables_of (opponent mine) (pairs prefix.now))
-        + size (decisions_by mine decisions.now.kept.whole decisions.now.removed.whole) }
+/// The circuit of decisions, with all gates that were put, along paths or by plain chains.
+fn whole_circuit(alloc: Global, plan: &Plan, plain: bool) -> Result<Circuit, GateFault>
+    requires few { length plan.now.decisions.now.removed.whole
+        ≤ length plan.now.decisions.now.kept.whole }
+    requires sees { SeesBefore (pairs plan.now.prefix.now) (decisions_by plan.now.mine
+        plan.now.decisions.now.kept.whole plan.now.decisions.now.removed.whole) }
+    ensures computes { IfOk result (λ c. Computes plan.now.mine (pairs plan.now.prefix.now)
+        (decisions_by plan.now.mine plan.now.decisions.now.kept.whole
+        plan.now.decisions.now.removed.whole) c) }
+    ensures long { IsErrOf result GateFault.TooLong → plain ≡ true → 2147483647
+        ≤ length (variables_of (opponent plan.now.mine) (pairs plan.now.prefix.now))
+        + size (decisions_by plan.now.mine plan.now.decisions.now.kept.whole
+        plan.now.decisions.now.removed.whole) }
 {
-    let inputs = variables_of(alloc, prefix, opponent(mine))?;
-    let places = Places::new(alloc, prefix)?;
-    let counts = Counts::new(alloc, prefix, &places, decisions)?;
+    let inputs = variables_of(alloc, plan.prefix, opponent(plan.mine))?;
+    let places = Places::new(alloc, plan.prefix)?;
+    let counts = Counts::new(alloc, plan.prefix, &places, plan.decisions)?;
     let task = Task {
-        mine,
-        prefix,
+        mine: plan.mine,
+        prefix: plan.prefix,
         places: &places,
-        decisions,
+        decisions: plan.decisions,
         counts: &counts,
-        plain: false,
+        plain,
     };
     let entries = Entries::new(alloc, &task)?;
-    let assembly = assemble_shared(alloc, &task, &entries, inputs.len())?;
+    let assembly = assemble(alloc, &task, &entries, inputs.len())?;
     Ok(Circuit {
         inputs,
         outputs: assembly.outputs,
         gates: assembly.work.gates.into_gates(),
     })
+}
+
+/// The same, without the gates that no output needs.
+fn trimmed_circuit(alloc: Global, plan: &Plan, plain: bool) -> Result<Circuit, GateFault>
+    requires few { length plan.now.decisions.now.removed.whole
+        ≤ length plan.now.decisions.now.kept.whole }
+    requires sees { SeesBefore (pairs plan.now.prefix.now) (decisions_by plan.now.mine
+        plan.now.decisions.now.kept.whole plan.now.decisions.now.removed.whole) }
+    ensures computes { IfOk result (λ c. Computes plan.now.mine (pairs plan.now.prefix.now)
+        (decisions_by plan.now.mine plan.now.decisions.now.kept.whole
+        plan.now.decisions.now.removed.whole) c) }
+    ensures long { IsErrOf result GateFault.TooLong → plain ≡ true → 2147483647
+        ≤ length (variables_of (opponent plan.now.mine) (pairs plan.now.prefix.now))
+        + size (decisions_by plan.now.mine plan.now.decisions.now.kept.whole
+        plan.now.decisions.now.removed.whole) }
+{
+    let circuit = whole_circuit(alloc, plan, plain)?;
+    Ok(trimmed(alloc, circuit)?)
+}
+
+/// The one of two circuits with fewer gates.
+fn smaller(one: Circuit, other: Circuit) -> Circuit
+    ensures { (result ≡ one) ⊎ (result ≡ other) }
+{
+    if other.gates.len() < one.gates.len() {
+        other
+    } else {
+        one
+    }
+}
+
+/// A circuit along paths, or that by plain chains if this is smaller. Chains are tried only if
+/// decisions are few: of many, paths have much in common.
+fn or_chains(alloc: Global, plan: &Plan, by_paths: Circuit) -> Result<Circuit, GateFault>
+    requires few { length plan.now.decisions.now.removed.whole
+        ≤ length plan.now.decisions.now.kept.whole }
+    requires sees { SeesBefore (pairs plan.now.prefix.now) (decisions_by plan.now.mine
+        plan.now.decisions.now.kept.whole plan.now.decisions.now.removed.whole) }
+    requires computes { Computes plan.now.mine (pairs plan.now.prefix.now)
+        (decisions_by plan.now.mine plan.now.decisions.now.kept.whole
+        plan.now.decisions.now.removed.whole) by_paths }
+    ensures computes { IfOk result (λ c. Computes plan.now.mine (pairs plan.now.prefix.now)
+        (decisions_by plan.now.mine plan.now.decisions.now.kept.whole
+        plan.now.decisions.now.removed.whole) c) }
+    ensures long { IsErrOf result GateFault.TooLong → 2147483647
+        ≤ length (variables_of (opponent plan.now.mine) (pairs plan.now.prefix.now))
+        + size (decisions_by plan.now.mine plan.now.decisions.now.kept.whole
+        plan.now.decisions.now.removed.whole) }
+{
+    if plan.decisions.kept.whole_len() > 1000 {
+        return Ok(by_paths);
+    }
+    let by_chains = trimmed_circuit(alloc, plan, true)?;
+    Ok(smaller(by_paths, by_chains))
 }
 
 /// The circuit by which the player of a quantifier keeps to decisions: its inputs are the variables
@@ -306,6 +332,15 @@ pub fn circuit_of(
         ≤ length (variables_of (opponent mine) (pairs prefix.now))
         + size (decisions_by mine decisions.now.kept.whole decisions.now.removed.whole) }
 {
-    let circuit = whole_circuit(alloc, prefix, mine, decisions)?;
-    Ok(trimmed(alloc, circuit)?)
+    let plan = Plan {
+        prefix,
+        mine,
+        decisions,
+    };
+    match trimmed_circuit(alloc, &plan, false) {
+        Ok(by_paths) => or_chains(alloc, &plan, by_paths),
+        Err(GateFault::NoMemory) => Err(GateFault::NoMemory),
+        // Paths may put three gates for a turn, and the bound is one of chains.
+        Err(GateFault::TooLong) => trimmed_circuit(alloc, &plan, true),
+    }
 }
