@@ -181,6 +181,7 @@ impl Builder {
         ensures value { IfOk result (IsBoth self.new left right) }
         ensures err { OnErr result (self.new ≡ self.old) }
         ensures long { IsErrOf result GateFault.TooLong → next_of self.old ≡ 2147483648 }
+        ensures room { IsErrOf result GateFault.NoMemory → next_of self.old < 2147483648 }
     {
         match folded_by_either(left, right) {
             Some(wire) => Ok(wire),
@@ -199,6 +200,7 @@ impl Builder {
         ensures value { IfOk result (IsGate self.new gate.now) }
         ensures err { OnErr result (self.new ≡ self.old) }
         ensures long { IsErrOf result GateFault.TooLong → next_of self.old ≡ 2147483648 }
+        ensures room { IsErrOf result GateFault.NoMemory → next_of self.old < 2147483648 }
     {
         match self.find(gate) {
             Some(place) => Ok(self.wire_at(place)),
@@ -262,6 +264,7 @@ impl Builder {
         ensures value { IfOk result (IsGate self.new gate.now) }
         ensures err { OnErr result (self.new ≡ self.old) }
         ensures long { IsErrOf result GateFault.TooLong → next_of self.old ≡ 2147483648 }
+        ensures room { IsErrOf result GateFault.NoMemory → next_of self.old < 2147483648 }
     {
         let place = self.gates.len();
         if self.first as usize + place >= VARIABLES as usize {

@@ -89,6 +89,7 @@ impl Assembly {
     fn new(alloc: Global, inputs: usize, decisions: usize) -> Result<Assembly, GateFault>
         ensures unassembled { IfOk result (IsUnassembled inputs) }
         ensures long { IsErrOf result GateFault.TooLong → 2147483647 ≤ inputs }
+        ensures room { IsErrOf result GateFault.NoMemory → inputs < 2147483647 }
     {
         if inputs >= 2147483647 {
             return Err(GateFault::TooLong);
