@@ -39,12 +39,14 @@ pub record Counts : Type 0 where
   pub outputs : ℕ
   pub gates : ℕ
 
+-- these counts, with the bytes that are left
+abbrev pub counts_before : (inputs outputs gates : ℕ) → List ℕ → Option (Counts × List ℕ)
+counts_before inputs outputs gates text = Some (record { inputs = inputs; outputs = outputs; gates = gates }, text)
+
 -- the counts, if there are no latches and the greatest variable is no less than the sum
 abbrev pub counted : (most inputs latches outputs gates : ℕ) → List ℕ → Option (Counts × List ℕ)
-counted most inputs latches outputs gates text = if nat_lt most (inputs + latches + gates) then None else (if nat_eq latches 0 then Some (
-  record { inputs = inputs; outputs = outputs; gates = gates },
-  text,
-) else None)
+counted most inputs latches outputs gates text =
+    if nat_lt most (inputs + latches + gates) then None else (if nat_eq latches 0 then counts_before inputs outputs gates text else None)
 
 -- the header after the word of the format: a blank before each number, and the end of the line
 abbrev pub header_counts : List ℕ → Option (Counts × List ℕ)
@@ -79,16 +81,17 @@ gates_read (suc k) n text =
     and_then (number 32 v.1) (λ l.
     and_then (number 10 l.1) (λ r. if nat_eq v.0 (2 * n) then and_then (gates_read k (suc n) r.1) (with_gate l.0 r.0) else None)))
 
+-- with a name in front of others
+abbrev pub with_name : ℕ → List ℕ × List ℕ → Option (List ℕ × List ℕ)
+with_name name more = Some (name ∷ more.0, more.1)
+
 -- the symbols of this many inputs or outputs, the first of which has the position n: names that are numbers
 abbrev pub names_read : List ℕ → ℕ → ℕ → List ℕ → Option (List ℕ × List ℕ)
 names_read letter zero n text = Some ([], text)
 names_read letter (suc k) n text =
     and_then (word letter text) (λ t.
     and_then (number 32 t) (λ p.
-    and_then (number 10 p.1) (λ v. if nat_eq p.0 n then and_then (names_read letter k (suc n) v.1) (λ more. Some (
-      v.0 ∷ more.0,
-      more.1,
-    )) else None)))
+    and_then (number 10 p.1) (λ v. if nat_eq p.0 n then and_then (names_read letter k (suc n) v.1) (with_name v.0) else None)))
 
 -- names and wires side by side
 abbrev pub named : List ℕ → List Wire → List (ℕ × Wire)
