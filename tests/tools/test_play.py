@@ -507,6 +507,13 @@ def try_small():
             trace.write_text(trace_text)
             told = play(formula, trace)
             expect(f"{formula_text!r} {trace_text!r}", told.returncode == 0 and said in told.stdout, told)
+        names = Path(folder) / "names"
+        trace.write_text("p qrp 0 0\n1 0 0\nr sat\n")
+        names.write_text("1 a\n3 c\n")
+        for count, said in ((22, f"-a -2 -c {' '.join(str(-n) for n in range(4, 23))}\n"), (23, "-a -c, and 21 variables without a name\n")):
+            formula.write_text(f"p cnf {count} 0\ne {' '.join(map(str, range(1, count + 1)))} 0\n")
+            told = play("--names", names, formula, trace)
+            expect(f"{count} variables, of which two have names", f"by the proof: {said}" in told.stdout, told)
 
 
 def try_any_pivot():
@@ -664,7 +671,7 @@ def main():
         try_damages(pool)
     for part in try_text, try_forms, try_gates, try_end, try_replies, try_small, try_any_pivot, try_files, try_terminal, try_own_fault, try_signals:
         part()
-    return finish(1441)
+    return finish(1443)
 
 
 if __name__ == "__main__":

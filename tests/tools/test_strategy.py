@@ -204,6 +204,11 @@ def try_formats(use, given):
     found = of_circuit(circuit)
     expect(f"{given.name}, aag: the symbols", list(found[:2]) == [called(given, inputs), called(given, outputs)], found)
     given.expect_same("aag", found)
+    binary = use.run(TOOL, *given.words("--format", "aig"), encoding=None)
+    expect(f"{given.name}, aig: ends well", binary.returncode == 0 and not binary.stderr, binary)
+    found = of_circuit(read_circuit(binary.stdout))
+    expect(f"{given.name}, aig: the symbols", list(found[:2]) == [called(given, inputs), called(given, outputs)], found)
+    given.expect_same("aig", found)
     try_table(use, given, outputs)
     graph = use.shown(*given.words("--format", "dot"))
     drawn = of_dot(graph)
@@ -594,6 +599,26 @@ def try_odd_names(use):
     use.expect("justice", use.run(TOOL, "--circuit", path, formula), 1, "", "the circuit has justice properties, and that of a strategy has none")
 
 
+def try_buses(use):
+    """The ports of a module with buses are those of the names, whatever the outputs depend on."""
+    formula = use.write("formula", "p cnf 7 0\na 1 2 3 0\ne 4 5 6 0\na 7 0\n")
+    names = use.write("names", "1 d[0]\n2 d[1]\n3 en@0\n4 h[0]\n5 h[1]\n6 k[1]\n7 k[0]\n")
+    head = "aag 5 4 0 3 1\n2\n4\n6\n8\n"
+    for outputs, gate, lines in (
+        ("4\n0\n1\n", "10 2 4", ["h[0] = d[1]", "h[1] = 1'b0", "\\k[1]  = 1'b1"]),
+        ("10\n3\n6\n", "10 2 5", ["h[0] = d[0] & ~d[1]", "h[1] = ~d[0]", "\\k[1]  = \\en@0 "]),
+    ):
+        path = use.write("circuit", f"{head}{outputs}{gate}\ni0 1\ni1 2\ni2 3\ni3 7\no0 4\no1 5\no2 6\n")
+        ports = ["    input [1:0] d,", "    input \\en@0 ,", "    input \\k[0] ,", "    output [1:0] h,", "    output \\k[1] ", ");"]
+        text = use.shown("--format", "verilog-buses", "--names", names, "--circuit", path, formula)
+        expect(f"buses of {lines}", text.splitlines() == ["module strategy (", *ports, *(f"    assign {line};" for line in lines), "endmodule"], text)
+        block = use.shown("--format", "verilog-buses", "--block", "2", "--names", names, "--circuit", path, formula).splitlines()
+        expect(f"buses of {lines}: a block", block[1:6] == [ports[0], ports[1], *ports[3:]], block)
+        if shutil.which("yosys"):
+            read = ["yosys", "-q", "-p", f"read_verilog {use.write('module.v', text)}; hierarchy -check -top strategy"]
+            expect(f"buses of {lines}: yosys", subprocess.run(read, check=False, capture_output=True).returncode == 0, text)
+
+
 def try_choices(use):
     """--only and --block."""
     formula = use.write("formula", "p cnf 6 0\na 1 2 0\ne 3 4 5 0\na 6 0\n")
@@ -859,13 +884,14 @@ PARTS = [
     try_no_variables,
     try_expressions,
     try_odd_names,
+    try_buses,
     try_choices,
     try_words,
     try_play,
     try_solve,
     try_full_folder,
 ]
-WITHOUT_PROGRAM = [try_random_circuits, try_wrong_circuits, try_no_variables, try_expressions, try_odd_names, try_choices]
+WITHOUT_PROGRAM = [try_random_circuits, try_wrong_circuits, try_no_variables, try_expressions, try_odd_names, try_buses, try_choices]
 LEAST = 1746
 
 

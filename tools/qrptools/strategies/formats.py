@@ -15,6 +15,7 @@ COLUMNS = 8  # inputs of a table
 WIDTH = 100  # of a line of BLIF
 SIMPLE = re.compile("[A-Za-z_][A-Za-z0-9_]*", re.ASCII)
 MODULE = "strategy"
+BUSES = "verilog-buses"  # the format whose interface does not change with the answer
 # Words that are no names in Verilog without a backslash: the keywords of SystemVerilog (IEEE 1800-2017, annex B), which has those of Verilog.
 KEYWORDS = frozenset(
     """accept_on alias always always_comb always_ff always_latch and assert assign assume automatic before begin bind bins binsof bit break
@@ -63,25 +64,91 @@ def numbers(constants: list[int], names: Names) -> Iterator[str]:
         yield f"    as numbers: {found}"
 
 
+class Numbered:
+    """A circuit with the numbers of AIGER: the inputs come first, and then the gates, each after its inputs."""
+
+    def __init__(self, strategy: Strategy) -> None:
+        self.strategy = strategy
+        self.wires = {0: 0, **{literal: 2 * place for place, literal in enumerate((*strategy.inputs, *strategy.gates), 1)}}
+
+    def wire(self, literal: int) -> int:
+        return self.wires[literal & ~1] ^ (literal & 1)
+
+    def header(self, word: str) -> str:
+        own = self.strategy
+        return f"{word} {len(self.wires) - 1} {len(own.inputs)} 0 {len(own.outputs)} {len(own.gates)}"
+
+    def outputs(self) -> Iterator[str]:
+        return (str(self.wire(literal)) for literal in self.strategy.outputs.values())
+
+    def gates(self) -> Iterator[tuple[int, int, int]]:
+        for gate, both in self.strategy.gates.items():
+            one, other = sorted(map(self.wire, both), reverse=True)
+            yield self.wire(gate), one, other
+
+    def symbols(self, names: Names) -> Iterator[str]:
+        for kind, variables in ("i", self.strategy.inputs.values()), ("o", self.strategy.outputs):
+            yield from (f"{kind}{place} {names.name(variable)}" for place, variable in enumerate(variables))
+
+
 def aag(strategy: Strategy, names: Names, _formula: Formula) -> Iterator[str]:
     """The circuit in AIGER's ASCII format, with names as symbols."""
-    wires = {0: 0}
-    for place, literal in enumerate((*strategy.inputs, *strategy.gates), 1):
-        wires[literal] = 2 * place
-    wire = lambda literal: wires[literal & ~1] ^ (literal & 1)
-    yield f"aag {len(wires) - 1} {len(strategy.inputs)} 0 {len(strategy.outputs)} {len(strategy.gates)}"
-    yield from (str(wire(literal)) for literal in (*strategy.inputs, *strategy.outputs.values()))
-    for gate, both in strategy.gates.items():
-        yield " ".join(map(str, (wire(gate), *sorted(map(wire, both), reverse=True))))
-    for kind, variables in ("i", strategy.inputs.values()), ("o", strategy.outputs):
-        yield from (f"{kind}{place} {names.name(variable)}" for place, variable in enumerate(variables))
+    circuit = Numbered(strategy)
+    yield circuit.header("aag")
+    yield from (str(circuit.wire(literal)) for literal in strategy.inputs)
+    yield from circuit.outputs()
+    yield from (" ".join(map(str, gate)) for gate in circuit.gates())
+    yield from circuit.symbols(names)
+
+
+def aig(strategy: Strategy, names: Names) -> bytes:
+    """The circuit in AIGER's binary format, with names as symbols."""
+    circuit = Numbered(strategy)
+    lines = "".join(f"{line}\n" for line in (circuit.header("aig"), *circuit.outputs()))
+    gates = bytearray()
+    for gate, one, other in circuit.gates():
+        for number in gate - one, one - other:
+            while number > 127:
+                gates.append(number & 127 | 128)
+                number >>= 7
+            gates.append(number)
+    symbols = "".join(f"{line}\n" for line in circuit.symbols(names))
+    return lines.encode() + bytes(gates) + symbols.encode(errors="surrogateescape")
 
 
 def verilog(strategy: Strategy, names: Names, _formula: Formula) -> Iterator[str]:
     """A module of Verilog with these inputs and outputs."""
-    labels, expressions = Labels(strategy, names, spelled=identifier), Expressions(strategy)
-    style = Style(("~", "&", "|"), ("1'b0", "1'b1"), labels.wire)
+    labels = Labels(strategy, names, spelled=identifier)
     ports = [*(f"input {label}" for label in labels.inputs()), *(f"output {label}" for label in labels.outputs())]
+    return module(strategy, labels, ports)
+
+
+def verilog_buses(strategy: Strategy, names: Names, _formula: Formula) -> Iterator[str]:
+    """The same, with the bits of a bus as one port."""
+    labels = Labels(strategy, names, spelled=identifier)
+    ports: dict[str, None] = {}  # in the order of their first bits
+    for direction, variables in ("input", set(strategy.inputs.values())), ("output", set(strategy.outputs)):
+        own = {
+            variable: bus
+            for bus, bits in names.buses.items()
+            if bus not in names.variables and variables.issuperset(bits.values())
+            for variable in bits.values()
+        }
+        for variable in [*strategy.inputs.values(), *strategy.outputs]:
+            if variable in own:
+                bits = names.buses[own[variable]]
+                place = next(place for place, bit in bits.items() if bit == variable)
+                labels.variables[variable] = f"{identifier(own[variable])}[{place}]"
+                ports[f"{direction} [{max(bits)}:0] {identifier(own[variable])}"] = None
+            elif variable in variables:
+                ports[f"{direction} {labels.variables[variable]}"] = None
+    return module(strategy, labels, list(ports))
+
+
+def module(strategy: Strategy, labels: Labels, ports: list[str]) -> Iterator[str]:
+    """A module with these ports."""
+    expressions = Expressions(strategy)
+    style = Style(("~", "&", "|"), ("1'b0", "1'b1"), labels.wire)
     yield f"module {MODULE} ("
     yield from (f"    {port}{',' if place < len(ports) else ''}" for place, port in enumerate(ports, 1))
     yield ");"
@@ -185,6 +252,7 @@ FORMATS: dict[str, Callable[[Strategy, Names, Formula], Iterator[str]]] = {
     "text": text,
     "aag": aag,
     "verilog": verilog,
+    BUSES: verilog_buses,
     "blif": blif,
     "table": table,
     "dot": dot,
