@@ -1,5 +1,6 @@
 # make          proves and builds the programs: bin/qrp_cmd, and bin/qrp_strategy, which writes the winner's strategy as a circuit
 # make demo     the same, and runs the checker on real examples
+# make try      runs the checker on two examples before any proof, half a minute for each
 # make lib      proves and builds the library for C: lib/libqrp.a and lib/libqrp.so
 # make check    tests what is built
 # make test     proves what has changed, builds it, and runs all tests
@@ -42,7 +43,7 @@ MANDIR ?= $(PREFIX)/share/man
 TESTS = test-program test-strategy test-derivations test-tools test-examples test-library test-dist test-install test-many test-proofs \
 	test-definitions test-checks test-pages test-switches test-beside
 
-.PHONY: all lib static demo check test programs linked check-programs gate bench dist wheel deb image install uninstall help
+.PHONY: all lib static demo try check test programs linked check-programs gate bench dist wheel deb image install uninstall help
 .PHONY: clean test-refusals $(TESTS)
 
 all: $(PROGRAM) $(STRATEGY)
@@ -70,6 +71,13 @@ demo: all
 	$(PROGRAM) check examples/blind-box/blind-box.qdimacs examples/blind-box/blind-box.qrp
 	$(PROGRAM) check examples/carry-from-tables/carry-from-tables.qdimacs examples/carry-from-tables/carry-from-tables.qrp
 	$(PROGRAM) format examples/two_clauses.qdimacs
+
+# Without a proof: the same code, run as it is.
+try:
+	@echo 'runs the checker before any proof: what it says here is not proved'
+	@for example in blind-box carry-from-tables; do \
+	    (cd crates/qrp_cmd && $(RT) try --data formula=../../examples/$$example/$$example.qdimacs \
+	        --data trace=../../examples/$$example/$$example.qrp -- check formula trace) || exit; done
 
 # Every crate and its tests are proved, and all programs are built.
 $(PROVED): $(SOURCES)
