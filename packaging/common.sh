@@ -61,6 +61,7 @@ mode() {
 # quoted TEMPLATE TEXT: the text as the format of this template writes it
 quoted() {
     local text=$2
+    # shellcheck disable=SC2001
     case $1 in
     *.cmake.in) text=${text//\\/"\\\\"} text=${text//\"/"\\\""} text=${text//\$/"\\\$"} ;;
     *.pc.in) text=$(sed 's/[]\\"'"'"' #`[]/\\&/g' <<<"$text") ;;
