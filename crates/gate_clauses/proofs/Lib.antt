@@ -1,0 +1,9 @@
+pub mod Cited
+pub mod Values
+pub mod ClauseValues
+pub mod Gates
+pub mod Truth
+pub mod Greatest
+pub mod Encoded
+pub mod Closed
+pub mod Steps

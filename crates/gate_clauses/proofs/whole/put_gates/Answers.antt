@@ -1,0 +1,17 @@
+use Rattle.std.proofs.Common.{ℕ}
+use Rattle.qbf_core.specs.Blocks.{pairs}
+use Rattle.qbf_gates.specs.Gates.{Gate}
+use Rattle.qbf_gates.specs.Kept.{gate_of}
+use Rattle.gate_clauses.proofs.Steps.{clauses_next, pairs_next}
+use Rattle.gate_clauses.proofs.whole.put_gates.Goals as goal
+
+pub loop-i-preserved : goal.loop-i-preserved
+loop-i-preserved c =
+    let found = c.gate-var.result in
+    let gate : ℕ × Gate = (found.0, gate_of found.1 found.2.now) in
+    record {
+      bound = pairs_next (pairs c.in_ok-made.made.blocks) (pairs c.loop-i.made.blocks) (pairs c.args.encoder.blocks) c.args.gates.now.gates c.loop-i.i
+          gate c.gate-var.ensures c.loop-i.invariant.bound c.in_ok-made.ensures.bound;
+      put = clauses_next c.in_ok-made.made.clauses c.loop-i.made.clauses c.args.encoder.clauses c.args.gates.now.gates c.loop-i.i gate
+          c.gate-var.ensures c.loop-i.invariant.put c.in_ok-made.ensures.put;
+    }

@@ -1,0 +1,181 @@
+//! The clauses of gates.
+
+ghost use Rattle.std.specs.Prelude.{◌≡◌, [], ◌∷◌, ◌++◌, map, OnOk};
+ghost use Rattle.qbf_core.specs.Literal.{positive, negative, negated};
+ghost use Rattle.qbf_gates.specs.Gates.{And, Or, Xor, Ite};
+ghost use Rattle.gate_clauses.specs.Encoding.{clauses_of};
+
+use qbf_core::{GrowingLists, Lit, Var};
+use std::alloc::AllocError;
+
+/// A clause of one literal.
+pub(crate) fn put_one(clauses: &mut GrowingLists<Lit>, one: Lit) -> Result<(), AllocError>
+    ensures { OnOk result (clauses.new.whole ≡ clauses.old.whole ++ (one ∷ []) ∷ []) }
+{
+    clauses.begin();
+    clauses.push(one)?;
+    clauses.close()
+}
+
+/// A clause of two literals.
+pub(crate) fn put_two(
+    clauses: &mut GrowingLists<Lit>,
+    one: Lit,
+    other: Lit,
+) -> Result<(), AllocError>
+    ensures { OnOk result (clauses.new.whole ≡ clauses.old.whole ++ (one ∷ other ∷ []) ∷ []) }
+{
+    clauses.begin();
+    clauses.push(one)?;
+    clauses.push(other)?;
+    clauses.close()
+}
+
+/// A clause of three literals.
+pub(crate) fn put_three(
+    clauses: &mut GrowingLists<Lit>,
+    one: Lit,
+    other: Lit,
+    last: Lit,
+) -> Result<(), AllocError>
+    ensures { OnOk result
+        (clauses.new.whole ≡ clauses.old.whole ++ (one ∷ other ∷ last ∷ []) ∷ []) }
+{
+    clauses.begin();
+    clauses.push(one)?;
+    clauses.push(other)?;
+    clauses.push(last)?;
+    clauses.close()
+}
+
+/// A literal, and others after it, as one clause.
+pub(crate) fn put_wide(
+    clauses: &mut GrowingLists<Lit>,
+    one: Lit,
+    others: &[Lit],
+) -> Result<(), AllocError>
+    ensures { OnOk result (clauses.new.whole ≡ clauses.old.whole ++ (one ∷ others.now) ∷ []) }
+{
+    clauses.begin();
+    clauses.push(one)?;
+    clauses.extend(others)?;
+    clauses.close()
+}
+
+/// The negations of literals, after those of the unfinished clause.
+fn extend_negated(clauses: &mut GrowingLists<Lit>, others: &[Lit]) -> Result<(), AllocError>
+    ensures whole { OnOk result (clauses.new.whole ≡ clauses.old.whole) }
+    ensures unfinished { OnOk result
+        (clauses.new.unfinished ≡ clauses.old.unfinished ++ map negated others.now) }
+{
+    for lit in others {
+        clauses.push(lit.negated())?;
+    }
+    Ok(())
+}
+
+/// A literal, and the negations of others after it, as one clause.
+pub(crate) fn put_wide_negated(
+    clauses: &mut GrowingLists<Lit>,
+    one: Lit,
+    others: &[Lit],
+) -> Result<(), AllocError>
+    ensures { OnOk result
+        (clauses.new.whole ≡ clauses.old.whole ++ (one ∷ map negated others.now) ∷ []) }
+{
+    clauses.begin();
+    clauses.push(one)?;
+    extend_negated(clauses, others)?;
+    clauses.close()
+}
+
+/// A clause for each of these literals: a literal, and the one of them.
+pub(crate) fn put_each(
+    clauses: &mut GrowingLists<Lit>,
+    one: Lit,
+    others: &[Lit],
+) -> Result<(), AllocError>
+    ensures { OnOk result (clauses.new.whole ≡ clauses.old.whole
+        ++ map (λ l. one ∷ l ∷ []) others.now) }
+{
+    for lit in others {
+        put_two(clauses, one, *lit)?;
+    }
+    Ok(())
+}
+
+/// A clause for each of these literals: a literal, and the negation of the one of them.
+pub(crate) fn put_each_negated(
+    clauses: &mut GrowingLists<Lit>,
+    one: Lit,
+    others: &[Lit],
+) -> Result<(), AllocError>
+    ensures { OnOk result (clauses.new.whole ≡ clauses.old.whole
+        ++ map (λ l. one ∷ negated l ∷ []) others.now) }
+{
+    for lit in others {
+        put_two(clauses, one, lit.negated())?;
+    }
+    Ok(())
+}
+
+/// The clauses of a conjunction.
+pub(crate) fn put_and(
+    clauses: &mut GrowingLists<Lit>,
+    var: Var,
+    inputs: &[Lit],
+) -> Result<(), AllocError>
+    ensures { OnOk result (clauses.new.whole ≡ clauses.old.whole ++ clauses_of var (And inputs.now)) }
+{
+    put_wide_negated(clauses, Lit::new(var, false), inputs)?;
+    put_each(clauses, Lit::new(var, true), inputs)
+}
+
+/// The clauses of a disjunction.
+pub(crate) fn put_or(
+    clauses: &mut GrowingLists<Lit>,
+    var: Var,
+    inputs: &[Lit],
+) -> Result<(), AllocError>
+    ensures { OnOk result (clauses.new.whole ≡ clauses.old.whole ++ clauses_of var (Or inputs.now)) }
+{
+    put_wide(clauses, Lit::new(var, true), inputs)?;
+    put_each_negated(clauses, Lit::new(var, false), inputs)
+}
+
+/// The clauses of an exclusive disjunction.
+pub(crate) fn put_xor(
+    clauses: &mut GrowingLists<Lit>,
+    var: Var,
+    a: Lit,
+    b: Lit,
+) -> Result<(), AllocError>
+    ensures { OnOk result (clauses.new.whole ≡ clauses.old.whole ++ clauses_of var (Xor a b)) }
+{
+    let on = Lit::new(var, false);
+    let off = Lit::new(var, true);
+    put_three(clauses, off, a, b)?;
+    put_three(clauses, off, a.negated(), b.negated())?;
+    put_three(clauses, on, a.negated(), b)?;
+    put_three(clauses, on, a, b.negated())
+}
+
+/// The clauses of a choice.
+pub(crate) fn put_ite(
+    clauses: &mut GrowingLists<Lit>,
+    var: Var,
+    a: Lit,
+    b: Lit,
+    c: Lit,
+) -> Result<(), AllocError>
+    ensures { OnOk result (clauses.new.whole ≡ clauses.old.whole ++ clauses_of var (Ite a b c)) }
+{
+    let on = Lit::new(var, false);
+    let off = Lit::new(var, true);
+    put_three(clauses, off, a.negated(), b)?;
+    put_three(clauses, off, a, c)?;
+    put_three(clauses, on, a.negated(), b.negated())?;
+    put_three(clauses, on, a, c.negated())?;
+    put_three(clauses, off, b, c)?;
+    put_three(clauses, on, b.negated(), c.negated())
+}

@@ -1,0 +1,187 @@
+//! A formula in clauses that is made of a formula of gates, one after the other.
+
+ghost use Rattle.std.specs.Prelude.{◌≡◌, ◌≤◌, true, [], ◌∷◌, ◌++◌, OnOk, OnErr, IfOk};
+ghost use Rattle.qbf_core.specs.Blocks.{AreBound, IsBound, IsPrefix, pairs, variables};
+ghost use Rattle.qbf_core.specs.declared.quantifier.Quantifier.TheVariants.{Exists};
+ghost use Rattle.qbf_gates.specs.Gates.{And, Or, Xor, Ite};
+ghost use Rattle.gate_clauses.specs.Begun.{greatest};
+ghost use Rattle.gate_clauses.specs.Encoding.{clauses_of};
+
+use crate::clauses::{put_and, put_ite, put_one, put_or, put_xor};
+use crate::fault::EncodingFault;
+use qbf_core::{Formula, GrowingLists, LAST_VARIABLE, Lit, Prefix, PrefixFault, Quantifier, Var};
+use std::alloc::Global;
+use std::marker::Model;
+
+/// The prefix and the clauses so far. Contracts see both.
+#[derive(Drop)]
+pub struct Encoder {
+    prefix: Prefix,
+    clauses: GrowingLists<Lit>,
+}
+
+impl Model for Encoder {
+    ghost use Rattle.std.specs.List.{AllByRecursion};
+    ghost use Rattle.qbf_core.specs.Blocks.{AreBound};
+    ghost use Rattle.gate_clauses.specs.Begun.{Begun};
+
+    ghost Value = { Begun };
+
+    ghost view = { λ e. record { blocks = e.prefix; clauses = e.clauses.whole } };
+
+    ghost invariant = { λ e. AllByRecursion (AreBound e.prefix) e.clauses.whole };
+}
+
+/// The greatest variable that is bound, or 0 if none is.
+#[tactic(auto, using(crate::proofs::Greatest::next_greatest))]
+fn greatest_variable(prefix: &Prefix) -> u32
+    ensures greatest { result ≡ greatest (variables (pairs prefix.now)) }
+    ensures number { result ≤ 2147483647 }
+{
+    let mut most = 0;
+    for i in 0..prefix.len() {
+        let (_, var) = prefix.pair(i);
+        most = var.number().max(most);
+    }
+    most
+}
+
+/// Whether all of these literals are of bound variables.
+fn are_known(prefix: &Prefix, lits: &[Lit]) -> bool
+    ensures { result ≡ true → AreBound prefix.now lits.now }
+{
+    for lit in lits {
+        if !prefix.is_bound(lit.var()) {
+            return false;
+        }
+    }
+    true
+}
+
+/// Binds the variable of a gate, if its inputs are known.
+fn bind_gate(prefix: &mut Prefix, var: Var, inputs: &[Lit]) -> Result<(), EncodingFault>
+    ensures pushed { OnOk result (pairs prefix.new ≡ pairs prefix.old ++ (Exists, var) ∷ []) }
+    ensures known { OnOk result (AreBound prefix.old inputs.now) }
+    ensures err { OnErr result (prefix.new ≡ prefix.old) }
+{
+    if !are_known(prefix, inputs) {
+        return Err(EncodingFault::Unknown);
+    }
+    match prefix.push(Quantifier::Exists, var) {
+        Ok(()) => Ok(()),
+        Err(PrefixFault::B1) => Err(EncodingFault::Given),
+        Err(PrefixFault::B2) => Err(EncodingFault::NoMemory),
+    }
+}
+
+impl Encoder {
+    /// No variables yet, and no gates. It takes no memory.
+    pub fn new(alloc: Global) -> Encoder
+        ensures { result ≡ record { blocks = []; clauses = [] } }
+    {
+        Encoder {
+            prefix: Prefix::new(alloc),
+            clauses: GrowingLists::new(alloc),
+        }
+    }
+
+    /// Binds a variable innermost.
+    ///
+    /// # Errors
+    /// `Given` if the name is given already, and `NoMemory` if an allocation fails.
+    #[tactic(auto, using(crate::proofs::Encoded::bound_further))]
+    pub fn bind(&mut self, quantifier: Quantifier, var: Var) -> Result<(), EncodingFault>
+        ensures pushed { OnOk result (pairs self.new.blocks ≡ pairs self.old.blocks ++ (quantifier, var) ∷ []) }
+        ensures clauses { self.new.clauses ≡ self.old.clauses }
+    {
+        match self.prefix.push(quantifier, var) {
+            Ok(()) => Ok(()),
+            Err(PrefixFault::B1) => Err(EncodingFault::Given),
+            Err(PrefixFault::B2) => Err(EncodingFault::NoMemory),
+        }
+    }
+
+    /// Puts a conjunction.
+    ///
+    /// # Errors
+    /// `Given` if its name is given already, `Unknown` if an input is of no name that is given, and
+    /// `NoMemory` if an allocation fails.
+    pub fn and(mut self, var: Var, inputs: &[Lit]) -> Result<Encoder, EncodingFault>
+        ensures known { IfOk result (λ _. AreBound self.blocks inputs.now) }
+        ensures bound { IfOk result (λ e. pairs e.blocks ≡ pairs self.blocks ++ (Exists, var) ∷ []) }
+        ensures put { IfOk result (λ e. e.clauses ≡ self.clauses ++ clauses_of var (And inputs.now)) }
+    {
+        bind_gate(&mut self.prefix, var, inputs)?;
+        put_and(&mut self.clauses, var, inputs)?;
+        Ok(self)
+    }
+
+    /// Puts a disjunction.
+    ///
+    /// # Errors
+    /// As of `and`.
+    pub fn or(mut self, var: Var, inputs: &[Lit]) -> Result<Encoder, EncodingFault>
+        ensures known { IfOk result (λ _. AreBound self.blocks inputs.now) }
+        ensures bound { IfOk result (λ e. pairs e.blocks ≡ pairs self.blocks ++ (Exists, var) ∷ []) }
+        ensures put { IfOk result (λ e. e.clauses ≡ self.clauses ++ clauses_of var (Or inputs.now)) }
+    {
+        bind_gate(&mut self.prefix, var, inputs)?;
+        put_or(&mut self.clauses, var, inputs)?;
+        Ok(self)
+    }
+
+    /// Puts an exclusive disjunction.
+    ///
+    /// # Errors
+    /// As of `and`.
+    pub fn xor(mut self, var: Var, a: Lit, b: Lit) -> Result<Encoder, EncodingFault>
+        ensures known { IfOk result (λ _. AreBound self.blocks (a ∷ b ∷ [])) }
+        ensures bound { IfOk result (λ e. pairs e.blocks ≡ pairs self.blocks ++ (Exists, var) ∷ []) }
+        ensures put { IfOk result (λ e. e.clauses ≡ self.clauses ++ clauses_of var (Xor a b)) }
+    {
+        bind_gate(&mut self.prefix, var, &[a, b])?;
+        put_xor(&mut self.clauses, var, a, b)?;
+        Ok(self)
+    }
+
+    /// Puts a choice: the second input if the first is true, else the third.
+    ///
+    /// # Errors
+    /// As of `and`.
+    pub fn ite(mut self, var: Var, a: Lit, b: Lit, c: Lit) -> Result<Encoder, EncodingFault>
+        ensures known { IfOk result (λ _. AreBound self.blocks (a ∷ b ∷ c ∷ [])) }
+        ensures bound { IfOk result (λ e. pairs e.blocks ≡ pairs self.blocks ++ (Exists, var) ∷ []) }
+        ensures put { IfOk result (λ e. e.clauses ≡ self.clauses ++ clauses_of var (Ite a b c)) }
+    {
+        bind_gate(&mut self.prefix, var, &[a, b, c])?;
+        put_ite(&mut self.clauses, var, a, b, c)?;
+        Ok(self)
+    }
+
+    /// The formula, if the output is this literal. Its header names the greatest variable.
+    ///
+    /// # Errors
+    /// `Unknown` if the output is of no name that is given, `TooLong` if there are more clauses
+    /// than QDIMACS can count, and `NoMemory` if an allocation fails.
+    pub fn finish(mut self, output: Lit) -> Result<Formula, EncodingFault>
+        ensures known { IfOk result (λ _. IsBound self.blocks output.var) }
+        ensures prefix { IfOk result (λ _. IsPrefix self.blocks) }
+        ensures formula { IfOk result (λ f. f ≡ record {
+          max_var = greatest (variables (pairs self.blocks));
+          blocks = self.blocks;
+          clauses = self.clauses ++ (output ∷ []) ∷ [];
+        }) }
+    {
+        if !self.prefix.is_bound(output.var()) {
+            return Err(EncodingFault::Unknown);
+        }
+        put_one(&mut self.clauses, output)?;
+        if self.clauses.whole_len() > LAST_VARIABLE as usize {
+            return Err(EncodingFault::TooLong);
+        }
+        // The length of a prefix shows what holds of every prefix.
+        let _ = self.prefix.len();
+        let greatest = greatest_variable(&self.prefix);
+        Ok(Formula::from_parts(greatest, self.prefix, self.clauses))
+    }
+}
