@@ -21,7 +21,7 @@ from rattle_source import Function, Item, Source, end_of_group, trait_and_type, 
 
 AnyItem = TypeVar("AnyItem", bound=Item)
 
-WORDS = {"F9", "P9", "C5", "E3", "B2", "Memory", "NoMemory", "NO_MEMORY", "AllocError", "AllocFailed", "OutOfMemory"}
+WORDS = {"F9", "P9", "Q11", "C5", "E3", "B2", "Memory", "NoMemory", "NO_MEMORY", "AllocError", "AllocFailed", "OutOfMemory"}
 # These are types, and stand in a pattern without a path.
 TYPES = {"AllocError", "AllocFailed"}
 OF_ALLOCATOR = {"Vec.push", "Vec.reserve", "IndexSet.insert", "IndexMap.insert", "Vec::from_slice", "Vec::with_capacity", "BufWriter::new"}

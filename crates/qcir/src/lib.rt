@@ -1,0 +1,29 @@
+//! Formulas of gates in QCIR-14 (Jordan, Klieber, Seidl 2016): reading them from bytes.
+//!
+//! - Owns: texts of formulas of gates, and their names.
+//! - Offers: `read_question`, `Question`, `read_bytes`, `QuestionFault`, the laws.
+//! - Proved: exactly the formula of gates that the bytes spell, which is well formed and numbered in
+//!   the order of its names, or exactly the first fault and its line.
+//! - Read first: the definition `IsQuestion`; `read_question`, `reading_laws`.
+//! - Tested only: nothing.
+//! - Trusted: `indexmap`.
+#![tactic(auto)]
+
+mod fault;
+mod header;
+mod keyword;
+mod laws;
+mod lines;
+mod literals;
+mod names;
+mod parts;
+mod question;
+mod reader;
+mod source;
+mod text;
+
+pub use fault::QuestionFault;
+pub use laws::reading_laws;
+pub use question::Question;
+pub use source::read_bytes;
+pub use text::read_question;

@@ -1,0 +1,109 @@
+//! Names, numbered in the order in which they are given.
+
+ghost use Rattle.std.specs.Prelude.{◌≡◌, [], ◌∷◌, ◌++◌, true, false, length, IfOk, IfSome, OnErr, position};
+ghost use Rattle.std.specs.Prelude.{bytes_eq, ◌+◌, ◌<◌, ◌≤◌};
+ghost use Rattle.std.specs.List.{list_any};
+ghost use Rattle.qcir.specs.Names.{literal_named, with_name};
+ghost use Rattle.qcir.specs.Outcomes.{LeadsTo};
+
+use crate::fault::QuestionFault;
+use indexmap::IndexSet;
+use qbf_core::{LAST_VARIABLE, Lit, Var};
+use std::alloc::{AllocError, Global};
+use std::marker::Model;
+
+/// Names, each given once, in the order in which they were given. There are at most 2147483647.
+///
+/// Contracts see the list of them.
+#[derive(Drop)]
+pub(crate) struct Names<'a> {
+    set: IndexSet<&'a [u8]>,
+}
+
+impl<'a> Model for Names<'a> {
+    ghost use Rattle.std.specs.Prelude.{ℕ, ◌≤◌, List, length, map};
+
+    ghost Value = { List (List ℕ) };
+
+    ghost view = { λ n. map (λ k. k.now) n.set.keys };
+
+    ghost invariant = { λ n. length n.set.keys ≤ 2147483647 };
+}
+
+/// Adds a name to a set, and says whether it is new. One that is there stays.
+fn insert<'a>(set: &mut IndexSet<&'a [u8]>, name: &'a [u8]) -> Result<bool, AllocError>
+    ensures new { IfOk result (λ b. b ≡ true
+        → (set.new.keys ≡ set.old.keys ++ name.entry ∷ [])
+        × (list_any (λ k. bytes_eq name.now k.now) set.old.keys ≡ false)) }
+    ensures given { IfOk result (λ b. b ≡ false
+        → (set.new.keys ≡ set.old.keys)
+        × (list_any (λ k. bytes_eq name.now k.now) set.old.keys ≡ true)) }
+    ensures err { OnErr result (set.new.keys ≡ set.old.keys) }
+{
+    match set.insert(name) {
+        Ok(is_new) => Ok(is_new),
+        Err(_) => Err(AllocError),
+    }
+}
+
+impl<'a> Names<'a> {
+    /// No names. It takes no memory yet.
+    pub(crate) fn new(alloc: Global) -> Names<'a>
+        ensures { result ≡ [] }
+    {
+        Names {
+            set: IndexSet::new(alloc),
+        }
+    }
+
+    /// The number of names.
+    pub(crate) fn len(&self) -> usize
+        ensures count { result ≡ length self.now }
+        ensures few { result ≤ 2147483647 }
+    {
+        self.set.len()
+    }
+
+    /// The place of a name, counted from 0, or `None` if it is not given.
+    pub(crate) fn place(&self, name: &[u8]) -> Option<usize>
+        ensures place { result ≡ position (bytes_eq name.now) self.now }
+        ensures few { IfSome result (λ i. i < 2147483647) }
+    {
+        self.set.get_index_of(name)
+    }
+
+    /// Gives a name, which is numbered after the others.
+    ///
+    /// # Errors
+    /// Q10 if there are 2147483647 already, Q4 if this one is given already, and Q11 if an
+    /// allocation failed.
+    pub(crate) fn give(&mut self, name: &'a [u8]) -> Result<(), QuestionFault>
+        ensures given { LeadsTo (with_name self.old name.now) self.new result }
+        ensures kept { length self.old ≤ length self.new }
+    {
+        if self.set.len() >= LAST_VARIABLE as usize {
+            return Err(QuestionFault::Q10);
+        }
+        match insert(&mut self.set, name) {
+            Ok(true) => Ok(()),
+            Ok(false) => Err(QuestionFault::Q4),
+            Err(_) => Err(QuestionFault::Q11),
+        }
+    }
+
+    /// The literal of a name.
+    ///
+    /// # Errors
+    /// Q5 if it is not given.
+    pub(crate) fn literal(&self, negative: bool, name: &[u8]) -> Result<Lit, QuestionFault>
+        ensures { result ≡ literal_named self.now negative name.now }
+    {
+        match self.place(name) {
+            None => Err(QuestionFault::Q5),
+            Some(place) => match Var::new(place as u32 + 1) {
+                None => unreachable!(),
+                Some(var) => Ok(Lit::new(var, negative)),
+            },
+        }
+    }
+}

@@ -1,0 +1,84 @@
+//! A text as it is read, line by line.
+
+ghost use Rattle.std.specs.Prelude.{◌≡◌, [], false};
+ghost use Rattle.qcir_tokens.specs.Tokens.{tokens};
+ghost use Rattle.qcir.specs.Outcomes.{LeadsTo};
+ghost use Rattle.qcir.specs.Reading.{AtPrefix, result_at, row};
+
+use crate::fault::QuestionFault;
+use crate::lines::{read_gate_line, read_prefix_line};
+use crate::parts::Parts;
+use crate::question::Question;
+use qcir_tokens::Line;
+use std::alloc::Global;
+use std::marker::Model;
+
+/// What the lines so far say.
+///
+/// Contracts see where the next line stands.
+#[derive(Drop)]
+pub(crate) struct Reader<'a> {
+    parts: Parts<'a>,
+    /// Whether the output was read: then its name, and whether a minus stands before it.
+    in_gates: bool,
+    negative: bool,
+    output: &'a [u8],
+}
+
+impl<'a> Model for Reader<'a> {
+    ghost use Rattle.qcir.specs.Reading.{State, state_of};
+
+    ghost Value = { State };
+
+    ghost view = { λ r. state_of r.in_gates r.negative r.output.now r.parts };
+}
+
+impl<'a> Reader<'a> {
+    /// After the header. It takes no memory yet.
+    pub(crate) fn new(alloc: Global) -> Reader<'a>
+        ensures { result ≡ AtPrefix }
+    {
+        Reader {
+            parts: Parts::new(alloc),
+            in_gates: false,
+            negative: false,
+            output: b"",
+        }
+    }
+
+    /// Reads a line, without its line end.
+    ///
+    /// # Errors
+    /// The fault of the line at its place, and Q11 if an allocation failed.
+    pub(crate) fn read_line(&mut self, bytes: &'a [u8]) -> Result<(), QuestionFault>
+        ensures { LeadsTo (row self.old (tokens bytes.now)) self.new result }
+    {
+        let mut line = Line::new(bytes);
+        if self.in_gates {
+            return read_gate_line(&mut line, &mut self.parts);
+        }
+        match read_prefix_line(&mut line, &mut self.parts) {
+            Err(fault) => Err(fault),
+            Ok(None) => Ok(()),
+            Ok(Some((negative, output))) => {
+                self.in_gates = true;
+                self.negative = negative;
+                self.output = output;
+                Ok(())
+            }
+        }
+    }
+
+    /// The formula, if these were all lines.
+    ///
+    /// # Errors
+    /// Q9 if no output was read, and Q5 if its name is not given.
+    pub(crate) fn finish(self) -> Result<Question<'a>, QuestionFault>
+        ensures { result ≡ result_at self.entry }
+    {
+        if !self.in_gates {
+            return Err(QuestionFault::Q9);
+        }
+        self.parts.finish(self.negative, self.output)
+    }
+}

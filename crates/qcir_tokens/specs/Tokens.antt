@@ -1,0 +1,56 @@
+-- The tokens of a line of QCIR-14 (Jordan, Klieber, Seidl 2016): words and marks, with blanks between them or not.
+use Rattle.std.specs.Prelude.{◌≡◌, ℕ, Bool, ◌||◌, ◌==◌, if◌then◌else◌, List, [], ◌∷◌, ◌++◌}
+use Rattle.std.specs.Char.{is_ascii_alphanumeric}
+use Rattle.qbf_tokens.specs.Tokens.{is_blank}
+use Rattle.qcir_tokens.specs.declared.mark.Mark.{Mark}
+use Rattle.qcir_tokens.specs.declared.mark.Mark.TheVariants.{Close, Comma, Equals, Hash, Minus, Open, Other}
+
+-- a word: a name, a number, or a word of the format; or a mark
+pub data Token : Type 0 where
+  Word : List ℕ → Token
+  Sign : Mark → Token
+
+-- a letter, a digit or an underscore: the bytes of names
+abbrev pub is_word_byte : ℕ → Bool
+is_word_byte b = is_ascii_alphanumeric b || b == 95
+
+-- the mark that a byte is
+abbrev pub mark_of : ℕ → Mark
+mark_of b =
+    if b == 40 then Open
+    else (if b == 41 then Close
+    else (if b == 44 then Comma
+    else (if b == 45 then Minus
+    else (if b == 61 then Equals
+    else (if b == 35 then Hash
+    else Other)))))
+
+-- the word of these bytes, if there are any
+abbrev pub word : List ℕ → List Token
+word [] = []
+word (b ∷ bs) = Word (b ∷ bs) ∷ []
+
+-- what a byte that is not of a word says: nothing if it is a blank, else a mark
+abbrev pub sign : ℕ → List Token
+sign b = if is_blank b then [] else Sign (mark_of b) ∷ []
+
+-- the tokens of bytes after those of a word: words are as long as they can be
+abbrev pub tokens_after : List ℕ → List ℕ → List Token
+tokens_after w [] = word w
+tokens_after w (b ∷ bs) = if is_word_byte b then tokens_after (w ++ b ∷ []) bs else word w ++ (sign b ++ tokens_after [] bs)
+
+-- the tokens of a line
+abbrev pub tokens : List ℕ → List Token
+tokens line = tokens_after [] line
+
+-- the first token is not a word
+abbrev pub BeginsWithNoWord : List Token → Type 0
+BeginsWithNoWord [] = Unit {0}
+BeginsWithNoWord (Word w ∷ ts) = ⊥
+BeginsWithNoWord (Sign m ∷ ts) = Unit {0}
+
+-- the first token is not this mark
+abbrev pub BeginsWithout : Mark → List Token → Type 0
+BeginsWithout m [] = Unit {0}
+BeginsWithout m (Word w ∷ ts) = Unit {0}
+BeginsWithout m (Sign n ∷ ts) = n ≡ m → ⊥
