@@ -6,7 +6,7 @@
 //! - Proved: a formula of gates is true exactly if its formula in clauses is, and that one is
 //!   closed; the calls make exactly this formula.
 //! - Read first: `the_encoding_is_the_question`, `formula_in_clauses`; the definition `encoding`.
-//! - Tested only: nothing.
+//! - Tested only: the crate `gate_tests`: the clauses of worked texts.
 //! - Trusted: nothing.
 #![tactic(auto)]
 

@@ -5,7 +5,7 @@
 //! - Offers: `GateFormula`, `Gates`, `GateKind`.
 //! - Proved: a formula keeps its prefix, its gates in their order and its output as they were given.
 //! - Read first: the definitions `GateFormula`, `IsWellFormed` and `IsTrueGates`; `Gates::close`.
-//! - Tested only: nothing.
+//! - Tested only: the crate `gate_tests`: formulas that are read from texts.
 //! - Trusted: nothing.
 #![tactic(auto)]
 

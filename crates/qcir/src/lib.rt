@@ -5,7 +5,7 @@
 //! - Proved: exactly the formula of gates that the bytes spell, which is well formed and numbered in
 //!   the order of its names, or exactly the first fault and its line.
 //! - Read first: the definition `IsQuestion`; `read_question`, `reading_laws`.
-//! - Tested only: nothing.
+//! - Tested only: the crate `gate_tests`: worked texts, each fault with its line, sources that fail.
 //! - Trusted: `indexmap`.
 #![tactic(auto)]
 

@@ -4,7 +4,7 @@
 //! - Offers: `Line::word`, `Line::take`, `Line::is_done`; `Mark`.
 //! - Proved: exactly the tokens of the line, one after the other.
 //! - Read first: the definition `tokens`; `Line::word`.
-//! - Tested only: nothing.
+//! - Tested only: the crate `gate_tests`: lines of worked texts.
 //! - Trusted: nothing.
 #![tactic(auto)]
 

@@ -1,0 +1,7 @@
+//! Tests of formulas of gates through the public calls of their libraries: what no clause says.
+#![tactic(auto)]
+
+#[cfg(test)]
+mod clauses;
+#[cfg(test)]
+mod texts;

@@ -1,0 +1,90 @@
+//! Texts in QCIR-14, good and bad, and sources that fail.
+
+use qbf_text::PieceSource;
+use qcir::{QuestionFault, read_bytes, read_question};
+use std::process::Abort;
+use std::test::Fail;
+
+/// A text has so many names and gates.
+fn assert_read(rt: &(impl Abort + AllocGlobal), text: &[u8], names: usize, gates: usize) {
+    match read_question(rt.alloc(), text) {
+        Ok(question) => {
+            assert_eq!(rt; question.names(), names);
+            assert_eq!(rt; question.formula().gates().len(), gates);
+        }
+        Err(fault) => panic!(rt; "{fault:?}"),
+    }
+}
+
+/// A text has this fault on this line.
+fn assert_refused(rt: &(impl Abort + AllocGlobal), text: &[u8], wanted: (QuestionFault, u64)) {
+    match read_question(rt.alloc(), text) {
+        Ok(_) => panic!(rt; "no fault {wanted:?}"),
+        Err(fault) => assert_eq!(rt; fault, wanted),
+    }
+}
+
+#[test]
+fn reads_good_texts(rt: HostRuntime) {
+    assert_read(&rt, b"#QCIR-14\noutput(-g)\ng = and()", 1, 1);
+    assert_read(
+        &rt,
+        b"#QCIR-G14 2\r\n forall ( a )\r\n# c\n\noutput(a)\n",
+        1,
+        0,
+    );
+    assert_read(
+        &rt,
+        b"#QCIR-14\nexists(or)\noutput(_)\n_=ite(or,-or,or)\n",
+        2,
+        1,
+    );
+}
+
+#[test]
+fn refuses_headers_and_lines(rt: HostRuntime) {
+    assert_refused(&rt, b"#QCIR-15\noutput(g)\n", (QuestionFault::Q2, 1));
+    assert_refused(&rt, b"#QCIR-14\nexists(a,)\n", (QuestionFault::Q3, 2));
+    assert_refused(&rt, b"#QCIR-14\nexists(a)", (QuestionFault::Q9, 2));
+}
+
+#[test]
+fn refuses_names(rt: HostRuntime) {
+    assert_refused(&rt, b"#QCIR-14\nexists(a, a)\n", (QuestionFault::Q4, 2));
+    assert_refused(
+        &rt,
+        b"#QCIR-14\noutput(g)\ng = or(g)\n",
+        (QuestionFault::Q5, 3),
+    );
+    assert_refused(&rt, b"#QCIR-14\noutput(g)\n", (QuestionFault::Q5, 3));
+}
+
+#[test]
+fn refuses_what_is_not_prenex_or_closed(rt: HostRuntime) {
+    assert_refused(&rt, b"#QCIR-14\nfree(a)\n", (QuestionFault::Q6, 2));
+    assert_refused(
+        &rt,
+        b"#QCIR-14\noutput(g)\ng = exists(a; a)\n",
+        (QuestionFault::Q7, 3),
+    );
+    assert_refused(
+        &rt,
+        b"#QCIR-14\noutput(g)\ng = xor()\n",
+        (QuestionFault::Q8, 3),
+    );
+}
+
+#[test]
+fn pulls_a_text_whole(rt: HostRuntime) -> Result<(), Fail> {
+    let bytes = read_bytes(rt.alloc(), &mut PieceSource::new(b"#QCIR-14\n", 2, 0))?;
+    assert_eq!(rt; bytes.as_slice(), b"#QCIR-14\n".as_slice());
+    Ok(())
+}
+
+#[test]
+fn says_that_a_source_failed(rt: HostRuntime) {
+    for fail_at in 1..=10 {
+        let mut source = PieceSource::new(b"#QCIR-14\n", 1, fail_at);
+        assert!(rt; matches!(read_bytes(rt.alloc(), &mut source), Err(QuestionFault::Q1)));
+    }
+}
