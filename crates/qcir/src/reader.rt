@@ -50,7 +50,7 @@ impl<'a> Reader<'a> {
     ///
     /// # Errors
     /// The fault of the line at its place, and Q11 if an allocation failed.
-    pub(crate) fn read_line(&mut self, bytes: &'a [u8]) -> Result<(), QuestionFault>
+    pub(crate) fn take_line(&mut self, bytes: &'a [u8]) -> Result<(), QuestionFault>
         ensures { LeadsTo (row self.old (tokens bytes.now)) self.new result }
     {
         let mut line = Line::new(bytes);

@@ -71,7 +71,7 @@ pub fn read_question<'a>(
     'lines: while more {
         let (next, after, again) = split_line(rest);
         line += 1;
-        match reader.read_line(next) {
+        match reader.take_line(next) {
             Ok(()) => {}
             Err(fault) => return Err(on_line(fault, line)),
         }

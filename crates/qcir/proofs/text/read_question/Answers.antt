@@ -31,7 +31,7 @@ lines-preserved c =
     let few = rw c.lines-test.true at c.lines.invariant.few in
     let left = fewer split.result.2 (length split.result.1.now) (length c.lines.rest.now) split.ensures.shorter split.ensures.last in
     record {
-      read = lines ∙ next_line c.lines.reader c.read_line.new.self c.lines.line c.lines.rest.now split.result.0.now
+      read = lines ∙ next_line c.lines.reader c.take_line.new.self c.lines.line c.lines.rest.now split.result.0.now
           (lines_left split.result.2 split.result.1.now) split.ensures.lines c.in-Ok.ensures;
       few = omega (arith, few, left);
     }
