@@ -892,7 +892,7 @@ PARTS = [
     try_full_folder,
 ]
 WITHOUT_PROGRAM = [try_random_circuits, try_wrong_circuits, try_no_variables, try_expressions, try_odd_names, try_buses, try_choices]
-LEAST = 1746
+LEAST = 1944
 
 
 def main():
