@@ -65,7 +65,7 @@ quoted() {
     case $1 in
     *.cmake.in) text=${text//\\/"\\\\"} text=${text//\"/"\\\""} text=${text//\$/"\\\$"} ;;
     *.pc.in) text=$(sed 's/[]\\"'"'"' #`[]/\\&/g' <<<"$text") ;;
-    *.[1-9]) text=${text//\\/"\\e"} ;;
+    *.[1-9]) text=$(sed 's/\\/\\e/g; s/"/\\(dq/g; s/'"'"'/\\(aq/g; s/`/\\(ga/g' <<<"$text") ;;
     esac
     printf '%s' "$text"
 }

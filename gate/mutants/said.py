@@ -65,7 +65,8 @@ def function_at(crate: Path, file: str, line: int) -> Optional[str]:
 
 def read_check(text: str, function_at: Callable[[str, int], Optional[str]]) -> Check:
     """Reads what a check prints. An open goal counts for the function that `function_at` finds where the goal stands."""
-    found, misfits, faults, broken = Check({}, []), [], [], {}
+    found, misfits, faults = Check({}, []), [], []
+    broken: dict[str, str] = {}
     notes: list[tuple[str, bool, Optional[str]]] = []
     for line in text.splitlines():
         function = re.match(r"fn (\S+): (\w+ \w+|\w+)(.*)", line)

@@ -50,19 +50,34 @@ void *__real_malloc(size_t size);
 void *__real_realloc(void *old, size_t size);
 void __real_free(void *old);
 
+/* How much was asked for a block, by its address; of two blocks with one place the later one is known. */
+static __thread struct { void *block; size_t size; } asked[1 << 12];
+
+static void *noted(void *block, size_t size) {
+    size_t place = ((uintptr_t)block >> 4) % (1 << 12);
+    asked[place].block = block;
+    asked[place].size = size;
+    return block;
+}
+static size_t size_of(void *block) {
+    size_t place = ((uintptr_t)block >> 4) % (1 << 12);
+    return asked[place].block == block ? asked[place].size : malloc_usable_size(block);
+}
+
 void *__wrap_malloc(size_t size) {
     if (++requests == refuse_at) { was_refused = was_growth = true; return NULL; }
-    void *at = __real_malloc(size);
+    void *at = noted(__real_malloc(size), size);
     blocks += at != NULL;
     return at;
 }
 void *__wrap_realloc(void *old, size_t size) {
     if (++requests == refuse_at) {
         was_refused = true;
-        was_growth = !old || size > malloc_usable_size(old);
+        /* To as much as before, as a list of values without a size grows, is a growth too. */
+        was_growth = !old || size >= size_of(old);
         return NULL;
     }
-    void *at = __real_realloc(old, size);
+    void *at = noted(__real_realloc(old, size), size);
     blocks += !old && at;
     return at;
 }

@@ -111,6 +111,7 @@ LEFT = {
     ("docs/EMBED.md", "//!"): "tests/packaging/test-install compares it with the crate",
     ("docs/FORMATS.md", "formula = "): "a grammar",
     ("docs/FORMATS.md", "trace  = "): "a grammar",
+    ("docs/FORMATS.md", "text    = "): "a grammar",
     ("docs/INSTALL.md", "python3 -m venv"): "tests/packaging/test-install runs it with the wheel",
     ("docs/INSTALL.md", "sudo apt install"): "tests/packaging/test-roots runs it in a whole system",
     ("docs/INSTALL.md", "podman load"): "tests/packaging/test-install runs it, if there is an engine",
