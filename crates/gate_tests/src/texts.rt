@@ -1,7 +1,8 @@
 //! Texts in QCIR-14, good and bad, and sources that fail.
 
-use qbf_text::PieceSource;
-use qcir::{QuestionFault, read_bytes, read_question};
+use qbf_core::Var;
+use qbf_text::{PieceSource, VecSink};
+use qcir::{QuestionFault, read_bytes, read_question, write_question};
 use std::process::Abort;
 use std::test::Fail;
 
@@ -86,5 +87,48 @@ fn says_that_a_source_failed(rt: HostRuntime) {
     for fail_at in 1..=10 {
         let mut source = PieceSource::new(b"#QCIR-14\n", 1, fail_at);
         assert!(rt; matches!(read_bytes(rt.alloc(), &mut source), Err(QuestionFault::Q1)));
+    }
+}
+
+/// What a text is written as, if it is read.
+fn assert_written(rt: &(impl Abort + AllocGlobal), text: &[u8], wanted: &[u8]) -> Result<(), Fail> {
+    match read_question(rt.alloc(), text) {
+        Err(fault) => panic!(rt; "{fault:?}"),
+        Ok(question) => {
+            let mut sink = VecSink::new(rt.alloc(), 0)?;
+            assert!(rt; write_question(&question, &mut sink).is_ok());
+            assert_eq!(rt; sink.bytes(), wanted);
+            Ok(())
+        }
+    }
+}
+
+#[test]
+fn writes_the_canonical_text(rt: HostRuntime) -> Result<(), Fail> {
+    assert_written(
+        &rt,
+        b"#QCIR-G14 9\n\nexists(a)\nexists( b )\r\nforall(c)\n# d\noutput ( - g )\nf=and()\ng=ite(a,-b,f)",
+        b"#QCIR-14\nexists(a, b)\nforall(c)\noutput(-g)\nf = and()\ng = ite(a, -b, f)\n",
+    )?;
+    assert_written(
+        &rt,
+        b"#QCIR-14\noutput(h)\ng = or()\nh = xor(g, -g)\n",
+        b"#QCIR-14\noutput(h)\ng = or()\nh = xor(g, -g)\n",
+    )
+}
+
+#[test]
+fn tells_names(rt: HostRuntime) {
+    match read_question(rt.alloc(), b"#QCIR-14\nexists(x)\noutput(y)\ny = and(x)\n") {
+        Err(fault) => panic!(rt; "{fault:?}"),
+        Ok(question) => {
+            let (Some(first), Some(second), Some(third)) = (Var::new(1), Var::new(2), Var::new(3))
+            else {
+                panic!(rt; "no variable")
+            };
+            assert_eq!(rt; question.name(first), Some(b"x".as_slice()));
+            assert_eq!(rt; question.name(second), Some(b"y".as_slice()));
+            assert_eq!(rt; question.name(third), None);
+        }
     }
 }

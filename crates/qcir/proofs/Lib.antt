@@ -5,3 +5,6 @@ pub mod TextLines
 pub mod Numbers
 pub mod Sound
 pub mod Spelled
+pub mod WrittenParts
+pub mod WrittenTokens
+pub mod WrittenStatements

@@ -3,6 +3,7 @@ use Rattle.std.specs.Prelude.{◌≡◌, ◌↔◌, ℕ, zero, suc, List, [], �
 use Rattle.qbf_gates.specs.Gates.{IsWellFormed, names}
 use Rattle.qcir.specs.Grammar.{IsQuestion}
 use Rattle.qcir.specs.Reading.{Question, read_gates}
+use Rattle.qcir.specs.Texts.{text}
 
 -- the numbers from 1 to n
 abbrev pub up_to : ℕ → List ℕ
@@ -17,3 +18,7 @@ ReadsWellFormed = (bytes : List ℕ) (q : Question) → read_gates bytes ≡ Ok 
 -- a formula of gates is read from bytes exactly if they spell it
 abbrev pub ReadsQuestions : Type 0
 ReadsQuestions = (bytes : List ℕ) (q : Question) → read_gates bytes ≡ Ok q ↔ IsQuestion bytes q
+
+-- the canonical text of a formula of gates that was read is read as it again
+abbrev pub ReadsBack : Type 0
+ReadsBack = (bytes : List ℕ) (q : Question) → read_gates bytes ≡ Ok q → read_gates (text q) ≡ Ok q

@@ -3,5 +3,7 @@ pub mod Names
 pub mod Outcomes
 pub mod Reading
 pub mod Lines
-pub mod Laws
 pub mod Grammar
+pub mod Texts
+pub mod Written
+pub mod Laws

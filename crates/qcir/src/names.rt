@@ -3,8 +3,10 @@
 ghost use Rattle.std.specs.Prelude.{◌≡◌, [], ◌∷◌, ◌++◌, true, false, length, IfOk, IfSome, OnErr, position};
 ghost use Rattle.std.specs.Prelude.{bytes_eq, ◌+◌, ◌<◌, ◌≤◌};
 ghost use Rattle.std.specs.List.{list_any};
+ghost use Rattle.std.specs.Option.{option_map};
 ghost use Rattle.qcir.specs.Names.{literal_named, with_name};
 ghost use Rattle.qcir.specs.Outcomes.{LeadsTo};
+ghost use Rattle.qcir.specs.Texts.{name_at, name_of};
 
 use crate::fault::QuestionFault;
 use indexmap::IndexSet;
@@ -70,6 +72,26 @@ impl<'a> Names<'a> {
         ensures few { IfSome result (λ i. i < 2147483647) }
     {
         self.set.get_index_of(name)
+    }
+
+    /// The name of a variable or a gate, if it is given.
+    pub(crate) fn name(&self, var: Var) -> Option<&'a [u8]>
+        ensures { option_map (λ n. n.now) result ≡ name_at self.now var }
+    {
+        match self.set.get_index(var.number() as usize - 1) {
+            Some(name) => Some(*name),
+            None => None,
+        }
+    }
+
+    /// The name of a variable or a gate, or no bytes if it is not given.
+    pub(crate) fn name_or_empty(&self, var: Var) -> &'a [u8]
+        ensures { result.now ≡ name_of self.now var }
+    {
+        match self.name(var) {
+            Some(name) => name,
+            None => b"",
+        }
     }
 
     /// Gives a name, which is numbered after the others.

@@ -1,8 +1,11 @@
 //! A formula of gates with its names.
 
-ghost use Rattle.std.specs.Prelude.{◌≡◌, ◌<◌, length, slice_get, Some};
+ghost use Rattle.std.specs.Prelude.{◌≡◌, length};
+ghost use Rattle.std.specs.Option.{option_map};
+ghost use Rattle.qcir.specs.Texts.{name_at};
 
 use crate::names::Names;
+use qbf_core::Var;
 use qbf_gates::GateFormula;
 use std::marker::Model;
 
@@ -37,6 +40,20 @@ impl<'a> Question<'a> {
         ensures { result.now ≡ self.now.formula }
     {
         &self.formula
+    }
+
+    /// Its names.
+    pub(crate) fn all_names(&self) -> &Names<'a>
+        ensures { result.now ≡ self.now.names }
+    {
+        &self.names
+    }
+
+    /// The name of a variable or a gate, or `None` if the formula has none of this number.
+    pub fn name(&self, var: Var) -> Option<&[u8]>
+        ensures { option_map (λ n. n.now) result ≡ name_at self.now.names var }
+    {
+        self.names.name(var)
     }
 
     /// The number of names.

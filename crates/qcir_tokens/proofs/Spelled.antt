@@ -1,6 +1,7 @@
 -- The tokens of bytes that begin with blanks, with a word or with a mark.
 use Rattle.std.proofs.Common.{arith, ◌≡◌, ℕ, zero, suc, ◌<◌, ◌≤◌, true, false, List, [], ◌∷◌, ◌++◌, length, take, drop, get_or}
 use Rattle.std.proofs.Common.{refl, sym, ap, ◌∙◌, inl, inr, append_assoc, append-nil, add-zero, length-drop}
+use Rattle.std.specs.List.{AllByRecursion}
 use Rattle.std.proofs.lemmas.List.{get_or-drop}
 use Rattle.std.proofs.lemmas.Bool.{false≢true, cases_Bool}
 use Rattle.std.proofs.lemmas.Bool.Decides.{eqb_tells}
@@ -59,6 +60,18 @@ word_front (b ∷ bs) (suc n) some within all front =
 pub no_word : (bs : List ℕ) → BeginsWithNoBlank bs → (0 < length bs → is_word_byte (get_or bs 0 0) ≡ false) → BeginsWithNoWord (tokens bs)
 no_word [] shown front = tt
 no_word (b ∷ bs) shown front = let e : is_word_byte b ≡ false = front (omega arith) in rw (e, shown) tt
+
+-- bytes of a word in front of other bytes
+bytes_first : (v w bs : List ℕ) → AllByRecursion (λ b. is_word_byte b ≡ true) w → tokens_after v (w ++ bs) ≡ tokens_after (v ++ w) bs
+bytes_first v [] bs all = rw append-nil refl
+bytes_first v (b ∷ w) bs all =
+    let h : is_word_byte b ≡ true = all.0 in
+    rw h (bytes_first (v ++ b ∷ []) w bs all.1 ∙ ap (λ (u : List ℕ). tokens_after u bs) (append_assoc v (b ∷ []) w))
+
+-- a word in front of bytes that do not go on with it
+pub word_first_of : (b : ℕ) (w bs : List ℕ) → AllByRecursion (λ c. is_word_byte c ≡ true) (b ∷ w)
+    → (0 < length bs → is_word_byte (get_or bs 0 0) ≡ false) → tokens ((b ∷ w) ++ bs) ≡ Word (b ∷ w) ∷ tokens bs
+word_first_of b w bs all front = bytes_first [] (b ∷ w) bs all ∙ stop b w bs front
 
 -- ---- a mark in front
 
