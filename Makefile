@@ -33,7 +33,7 @@ LIBRARY = lib/libqrp.a
 STATIC = $(PROGRAM).static $(STRATEGY).static
 
 # the tests of the libraries, as programs
-LIBRARY_TESTS = crates/formula_tests/out/formula_tests_tests crates/trace_tests/out/trace_tests_tests
+LIBRARY_TESTS = crates/formula_tests/out/formula_tests_tests crates/gate_tests/out/gate_tests_tests crates/trace_tests/out/trace_tests_tests
 
 # where `make install` puts things; DESTDIR comes before all of them
 LIBDIR ?= $(PREFIX)/lib

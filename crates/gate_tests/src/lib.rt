@@ -4,4 +4,6 @@
 #[cfg(test)]
 mod clauses;
 #[cfg(test)]
+mod damaged;
+#[cfg(test)]
 mod texts;

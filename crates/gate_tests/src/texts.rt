@@ -2,7 +2,7 @@
 
 use qbf_core::Var;
 use qbf_text::{PieceSource, VecSink};
-use qcir::{QuestionFault, read_bytes, read_question, write_question};
+use qcir::{Question, QuestionFault, read_bytes, read_question, write_question};
 use std::process::Abort;
 use std::test::Fail;
 
@@ -117,18 +117,27 @@ fn writes_the_canonical_text(rt: HostRuntime) -> Result<(), Fail> {
     )
 }
 
+/// The variable or gate of this number has this name.
+fn assert_named(rt: &impl Abort, question: &Question, number: u32, wanted: &[u8]) {
+    let var = Var::new(number).expect(rt, "a variable");
+    match question.name(var) {
+        Some(name) => assert_eq!(rt; name, wanted),
+        None => panic!(rt; "no name of {number}"),
+    }
+}
+
 #[test]
 fn tells_names(rt: HostRuntime) {
-    match read_question(rt.alloc(), b"#QCIR-14\nexists(x)\noutput(y)\ny = and(x)\n") {
+    let text = b"#QCIR-14\nforall(w)\nexists(x)\noutput(y)\ny = and(x)\n";
+    match read_question(rt.alloc(), text) {
         Err(fault) => panic!(rt; "{fault:?}"),
         Ok(question) => {
-            let (Some(first), Some(second), Some(third)) = (Var::new(1), Var::new(2), Var::new(3))
-            else {
-                panic!(rt; "no variable")
-            };
-            assert_eq!(rt; question.name(first), Some(b"x".as_slice()));
-            assert_eq!(rt; question.name(second), Some(b"y".as_slice()));
-            assert_eq!(rt; question.name(third), None);
+            assert_named(&rt, &question, 2, b"x");
+            assert_named(&rt, &question, 3, b"y");
+            let fourth = Var::new(4).expect(&rt, "a variable");
+            assert!(rt; question.name(fourth).is_none());
+            assert_eq!(rt; question.variables(), 2);
+            assert_eq!(rt; question.existential(), 1);
         }
     }
 }

@@ -8,3 +8,4 @@ pub mod Spelled
 pub mod WrittenParts
 pub mod WrittenTokens
 pub mod WrittenStatements
+pub mod Counted

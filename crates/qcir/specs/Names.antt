@@ -1,6 +1,9 @@
 -- Names and their numbers: they are numbered from 1 in the order in which they are given.
 use Rattle.std.specs.Prelude.{ℕ, ◌+◌, Bool, List, [], ◌∷◌, ◌++◌, length, position, bytes_eq, nat_lt, if◌then◌else◌, Option, Some, None, Result, Ok, Err}
 use Rattle.std.specs.List.{list_any}
+use Rattle.qbf_core.specs.declared.quantifier.Quantifier.{Quantifier}
+use Rattle.qbf_core.specs.declared.quantifier.Quantifier.TheVariants.{Exists}
+use Rattle.qbf_core.specs.Blocks.{is_quantifier}
 use Rattle.qbf_core.specs.Literal.{Literal}
 use Rattle.qcir.specs.declared.fault.QuestionFault.{QuestionFault}
 use Rattle.qcir.specs.declared.fault.QuestionFault.TheVariants.{Q4, Q5, Q10}
@@ -24,3 +27,7 @@ literal_at negative (Some place) = Ok (record { var = place + 1; negative = nega
 -- the literal of a name, if it is given
 abbrev pub literal_named : List Name → Bool → Name → Result Literal QuestionFault
 literal_named names negative w = literal_at negative (position (bytes_eq w) names)
+
+-- whether a variable is existential
+abbrev pub is_existential : Quantifier × ℕ → Bool
+is_existential p = is_quantifier Exists p.0

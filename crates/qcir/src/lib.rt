@@ -7,7 +7,8 @@
 //!   the order of its names, or exactly the first fault and its line; its canonical text goes out
 //!   whole, or a beginning of it, and is read as it again.
 //! - Read first: the definition `IsQuestion`; `read_question`, `reading_laws`.
-//! - Tested only: the crate `gate_tests`: worked texts, each fault with its line, sources that fail.
+//! - Tested only: the crate `gate_tests`: worked texts, each fault with its line, texts cut at each
+//!   place, sources and allocations that fail.
 //! - Trusted: `indexmap`.
 #![tactic(auto)]
 

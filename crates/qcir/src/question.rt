@@ -1,11 +1,13 @@
 //! A formula of gates with its names.
 
-ghost use Rattle.std.specs.Prelude.{◌≡◌, length};
+ghost use Rattle.std.specs.Prelude.{◌≡◌, length, count_by};
 ghost use Rattle.std.specs.Option.{option_map};
+ghost use Rattle.qbf_core.specs.Blocks.{pairs};
+ghost use Rattle.qcir.specs.Names.{is_existential};
 ghost use Rattle.qcir.specs.Texts.{name_at};
 
 use crate::names::Names;
-use qbf_core::Var;
+use qbf_core::{Prefix, Quantifier, Var};
 use qbf_gates::GateFormula;
 use std::marker::Model;
 
@@ -25,6 +27,22 @@ impl<'a> Model for Question<'a> {
     ghost Value = { Question };
 
     ghost view = { λ q. record { names = q.names; formula = q.formula } };
+}
+
+/// The number of existential variables.
+#[tactic(auto, using(crate::proofs::Counted::one_more, crate::proofs::Counted::none_more))]
+fn existential(prefix: &Prefix) -> usize
+    ensures { result ≡ count_by is_existential (pairs prefix.now) }
+{
+    let mut count = 0;
+    for i in 0..prefix.len() {
+        let (quantifier, _) = prefix.pair(i);
+        match quantifier {
+            Quantifier::Exists => count += 1,
+            Quantifier::All => {}
+        }
+    }
+    count
 }
 
 impl<'a> Question<'a> {
@@ -56,7 +74,21 @@ impl<'a> Question<'a> {
         self.names.name(var)
     }
 
-    /// The number of names.
+    /// The number of variables.
+    pub fn variables(&self) -> usize
+        ensures { result ≡ length (pairs self.now.formula.blocks) }
+    {
+        self.formula.gates().prefix().len()
+    }
+
+    /// The number of existential variables.
+    pub fn existential(&self) -> usize
+        ensures { result ≡ count_by is_existential (pairs self.now.formula.blocks) }
+    {
+        existential(self.formula.gates().prefix())
+    }
+
+    /// The number of names: those of variables and of gates.
     pub fn names(&self) -> usize
         ensures { result ≡ length self.now.names }
     {
