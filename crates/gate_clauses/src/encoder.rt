@@ -1,6 +1,7 @@
 //! A formula in clauses that is made of a formula of gates, one after the other.
 
-ghost use Rattle.std.specs.Prelude.{◌≡◌, ◌≤◌, true, [], ◌∷◌, ◌++◌, OnOk, OnErr, IfOk};
+ghost use Rattle.std.specs.Prelude.{◌≡◌, ◌≤◌, ◌<◌, true, false, [], ◌∷◌, ◌++◌, length, OnOk, OnErr, IfOk};
+ghost use Rattle.std.specs.Result.{IsErrOf};
 ghost use Rattle.qbf_core.specs.Blocks.{AreBound, IsBound, IsPrefix, pairs, variables};
 ghost use Rattle.qbf_core.specs.declared.quantifier.Quantifier.TheVariants.{Exists};
 ghost use Rattle.qbf_gates.specs.Gates.{And, Or, Xor, Ite};
@@ -48,7 +49,8 @@ fn greatest_variable(prefix: &Prefix) -> u32
 
 /// Whether all of these literals are of bound variables.
 fn are_known(prefix: &Prefix, lits: &[Lit]) -> bool
-    ensures { result ≡ true → AreBound prefix.now lits.now }
+    ensures known { result ≡ true → AreBound prefix.now lits.now }
+    ensures unknown { result ≡ false → AreBound prefix.now lits.now → ⊥ }
 {
     for lit in lits {
         if !prefix.is_bound(lit.var()) {
@@ -63,6 +65,9 @@ fn bind_gate(prefix: &mut Prefix, var: Var, inputs: &[Lit]) -> Result<(), Encodi
     ensures pushed { OnOk result (pairs prefix.new ≡ pairs prefix.old ++ (Exists, var) ∷ []) }
     ensures known { OnOk result (AreBound prefix.old inputs.now) }
     ensures err { OnErr result (prefix.new ≡ prefix.old) }
+    ensures given { IsErrOf result EncodingFault.Given → IsBound prefix.old var }
+    ensures unknown { IsErrOf result EncodingFault.Unknown → AreBound prefix.old inputs.now → ⊥ }
+    ensures short { IsErrOf result EncodingFault.TooLong → ⊥ }
 {
     if !are_known(prefix, inputs) {
         return Err(EncodingFault::Unknown);
@@ -93,6 +98,9 @@ impl Encoder {
     pub fn bind(&mut self, quantifier: Quantifier, var: Var) -> Result<(), EncodingFault>
         ensures pushed { OnOk result (pairs self.new.blocks ≡ pairs self.old.blocks ++ (quantifier, var) ∷ []) }
         ensures clauses { self.new.clauses ≡ self.old.clauses }
+        ensures given { IsErrOf result EncodingFault.Given → IsBound self.old.blocks var }
+        ensures other { IsErrOf result EncodingFault.Unknown → ⊥ }
+        ensures short { IsErrOf result EncodingFault.TooLong → ⊥ }
     {
         match self.prefix.push(quantifier, var) {
             Ok(()) => Ok(()),
@@ -110,6 +118,9 @@ impl Encoder {
         ensures known { IfOk result (λ _. AreBound self.blocks inputs.now) }
         ensures bound { IfOk result (λ e. pairs e.blocks ≡ pairs self.blocks ++ (Exists, var) ∷ []) }
         ensures put { IfOk result (λ e. e.clauses ≡ self.clauses ++ clauses_of var (And inputs.now)) }
+        ensures given { IsErrOf result EncodingFault.Given → IsBound self.blocks var }
+        ensures unknown { IsErrOf result EncodingFault.Unknown → AreBound self.blocks inputs.now → ⊥ }
+        ensures short { IsErrOf result EncodingFault.TooLong → ⊥ }
     {
         bind_gate(&mut self.prefix, var, inputs)?;
         put_and(&mut self.clauses, var, inputs)?;
@@ -124,6 +135,9 @@ impl Encoder {
         ensures known { IfOk result (λ _. AreBound self.blocks inputs.now) }
         ensures bound { IfOk result (λ e. pairs e.blocks ≡ pairs self.blocks ++ (Exists, var) ∷ []) }
         ensures put { IfOk result (λ e. e.clauses ≡ self.clauses ++ clauses_of var (Or inputs.now)) }
+        ensures given { IsErrOf result EncodingFault.Given → IsBound self.blocks var }
+        ensures unknown { IsErrOf result EncodingFault.Unknown → AreBound self.blocks inputs.now → ⊥ }
+        ensures short { IsErrOf result EncodingFault.TooLong → ⊥ }
     {
         bind_gate(&mut self.prefix, var, inputs)?;
         put_or(&mut self.clauses, var, inputs)?;
@@ -138,6 +152,9 @@ impl Encoder {
         ensures known { IfOk result (λ _. AreBound self.blocks (a ∷ b ∷ [])) }
         ensures bound { IfOk result (λ e. pairs e.blocks ≡ pairs self.blocks ++ (Exists, var) ∷ []) }
         ensures put { IfOk result (λ e. e.clauses ≡ self.clauses ++ clauses_of var (Xor a b)) }
+        ensures given { IsErrOf result EncodingFault.Given → IsBound self.blocks var }
+        ensures unknown { IsErrOf result EncodingFault.Unknown → AreBound self.blocks (a ∷ b ∷ []) → ⊥ }
+        ensures short { IsErrOf result EncodingFault.TooLong → ⊥ }
     {
         bind_gate(&mut self.prefix, var, &[a, b])?;
         put_xor(&mut self.clauses, var, a, b)?;
@@ -152,6 +169,9 @@ impl Encoder {
         ensures known { IfOk result (λ _. AreBound self.blocks (a ∷ b ∷ c ∷ [])) }
         ensures bound { IfOk result (λ e. pairs e.blocks ≡ pairs self.blocks ++ (Exists, var) ∷ []) }
         ensures put { IfOk result (λ e. e.clauses ≡ self.clauses ++ clauses_of var (Ite a b c)) }
+        ensures given { IsErrOf result EncodingFault.Given → IsBound self.blocks var }
+        ensures unknown { IsErrOf result EncodingFault.Unknown → AreBound self.blocks (a ∷ b ∷ c ∷ []) → ⊥ }
+        ensures short { IsErrOf result EncodingFault.TooLong → ⊥ }
     {
         bind_gate(&mut self.prefix, var, &[a, b, c])?;
         put_ite(&mut self.clauses, var, a, b, c)?;
@@ -171,6 +191,10 @@ impl Encoder {
           blocks = self.blocks;
           clauses = self.clauses ++ (output ∷ []) ∷ [];
         }) }
+        ensures given { IsErrOf result EncodingFault.Given → ⊥ }
+        ensures unknown { IsErrOf result EncodingFault.Unknown → IsBound self.blocks output.var → ⊥ }
+        ensures long { IsErrOf result EncodingFault.TooLong
+            → 2147483647 < length (self.clauses ++ (output ∷ []) ∷ []) }
     {
         if !self.prefix.is_bound(output.var()) {
             return Err(EncodingFault::Unknown);
