@@ -10,10 +10,6 @@ both_comm true false = refl
 both_comm false true = refl
 both_comm false false = refl
 
-both_false : (a : Bool) → both a false ≡ false
-both_false true = refl
-both_false false = refl
-
 both_not : (a : Bool) → both a (not a) ≡ false
 both_not true = refl
 both_not false = refl

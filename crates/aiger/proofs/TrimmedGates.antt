@@ -107,18 +107,6 @@ gate_added first g gates new ws more w puts more_is = record {
   });
 }
 
-pub untrimmed_is : (first : ℕ) (old gates : List Gate) (ws : List Wire) → 1 ≤ first → first ≤ 2147483648 → IsUntrimmed first gates ws
-    → IsTrimming first old gates ws
-untrimmed_is first old gates ws some few is = subst (λ (gs : List Gate). IsTrimming first old gs ws) (sym is.none) (record {
-  sound = record { some = some; few = omega arith; below = tt };
-  same = λ n w there.
-      let e = is.wires n w there in
-      inr (subst (λ (x : Wire). IsSame first old [] (record { var = n; negated = false }) x) (sym e.0) (record {
-        below = let less = e.1 in omega arith;
-        value = λ run other has others agree. sym (agree n e.1);
-      }));
-})
-
 -- ---- outputs
 
 pub outputs_pushed : (first : ℕ) (old gates : List Gate) (os ds : List (ℕ × Wire)) (o d : ℕ × Wire) → OutputsSame first old gates os ds

@@ -27,19 +27,6 @@ use Rattle.qrp_rules.proofs.FirstFailures.{answer_after}
 
 -- ---- earlier steps
 
--- the answer of a look-up by number
-abbrev pub IsOnly : List Inference → ℕ → Option ℕ → Type 0
-IsOnly steps number answer = (i : ℕ) (step : Inference) → IsAt steps i step → step.number ≡ number → answer ≡ Some i
-
-pub not_found : (steps : List Inference) (place number : ℕ) (answer : Option ℕ) → IsOnly steps number answer → answer ≡ None
-    → FindsEarlier steps place number None
-not_found steps place number answer only none = λ i step here is less. let e : Some i ≡ None = sym (only i step here is) ∙ none in cc e
-
-pub found_late : (steps : List Inference) (place number index : ℕ) (answer : Option ℕ) → IsOnly steps number answer → answer ≡ Some index
-    → place ≤ index
-    → FindsEarlier steps place number None
-found_late steps place number index answer only found late = grind (arith, common_steps)
-
 -- literals that have the members of the earlier step are a premise
 pub premise_of : (steps : List Inference) (place index number : ℕ) (lits : List Literal)
     → StandsEarlier steps place number index → HasMembersAt steps index lits → IsPremise (take place steps) number lits

@@ -5,8 +5,8 @@ ghost use Rattle.trace_items.specs.Inferences.{Inference};
 ghost use Rattle.core_walk.specs.DistinctLits.{AreKept, HasMembersAt, IsKeptAt};
 
 use qbf_core::{GrowingLists, Lit};
-use qrp::KeptSteps;
 use std::alloc::{AllocError, Global};
+use trace_items::KeptSteps;
 use written_steps::{SeenLits, push_distinct};
 
 /// The steps that were accepted and seen to repeat a literal, with each of their literals once. So

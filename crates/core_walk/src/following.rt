@@ -12,8 +12,8 @@ use crate::hints::Hints;
 use crate::premises::find_premises;
 use crate::step::{CheckState, Context};
 use crate::uneven::{FoundStep, JudgeState, judge};
-use qrp::KeptSteps;
 use qrp_rules::Side;
+use trace_items::KeptSteps;
 use written_steps::{InitialSteps, Parts, SeenLits};
 
 /// The state that is kept from one step to the next.

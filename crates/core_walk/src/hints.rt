@@ -4,8 +4,8 @@ ghost use Rattle.std.specs.Prelude.{◌≡◌, ◌↔◌, ℕ, ◌<◌, Some, le
 ghost use Rattle.trace_items.specs.Inferences.{Inference, IsAt, IsOnlyAt};
 ghost use Rattle.core_walk.specs.Earlier.{FindsEarlier};
 
-use qrp::KeptSteps;
 use std::alloc::{AllocError, Global};
+use trace_items::KeptSteps;
 
 /// The positions of antecedents, as the pass from the goal down finds them. The pass forwards takes
 /// them back from the last one on. Contracts say nothing of them: each is compared with its

@@ -6,8 +6,8 @@ ghost use Rattle.core_walk.specs.Core.{IsGoal, IsInCore};
 ghost use Rattle.core_walk.specs.Marks.{IsMarked, IsNamed, with_mark};
 
 use crate::hints::Hints;
-use qrp::{Antecedents, KeptSteps};
 use std::alloc::{AllocError, Global};
+use trace_items::{Antecedents, KeptSteps};
 
 /// Marks where a step was found.
 #[inline(always)]

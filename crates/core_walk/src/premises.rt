@@ -8,7 +8,7 @@ ghost use Rattle.core_walk.specs.Premises.{ArePremises};
 use crate::distinct_lits::DistinctLits;
 use crate::hints::Hints;
 use qbf_core::Lit;
-use qrp::{Antecedents, KeptSteps};
+use trace_items::{Antecedents, KeptSteps};
 
 /// The literals of the antecedents of a step: as they are written, or each once.
 #[derive(Clone, Copy)]

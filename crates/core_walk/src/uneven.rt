@@ -5,15 +5,15 @@ ghost use Rattle.trace_items.specs.Inferences.{Inference};
 ghost use Rattle.core_walk.specs.Premises.{AreFit, ArePremises, IsPremise, found_conditions};
 ghost use Rattle.core_walk.specs.Uneven.{AreEnough, ArePartsOf, ArePremisesAt, IsToJudge};
 ghost use Rattle.qrp_rules.specs.Conditions.{AllHold, IsFaultOf};
-ghost use Rattle.step_antecedents.specs.Antecedents.{listed};
+ghost use Rattle.trace_items.specs.Antecedents.{listed};
 ghost use Rattle.written_steps.specs.Initial.{AreKnown};
 
 use crate::premises::Premises;
 use crate::step::{CheckState, Context, accepts_as_written, step_fault};
 use qbf_core::Lit;
-use qrp::{Antecedents, KeptSteps};
 use qrp_rules::{RuleFault, Side};
 use std::alloc::AllocError;
+use trace_items::{Antecedents, KeptSteps};
 use written_steps::{Parts, ShortStep};
 
 /// A step of the core, with the literals of its antecedents.

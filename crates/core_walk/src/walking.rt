@@ -11,8 +11,8 @@ use crate::following::follow_core;
 use crate::hints::Hints;
 use crate::marks::mark_core;
 use crate::step::Context;
-use qrp::KeptSteps;
 use qrp_rules::Side;
+use trace_items::KeptSteps;
 
 /// The marks of the core, which is all that a goal needs, if each of its steps follows from those
 /// before it. The goal is the position of the last step without literals.

@@ -230,12 +230,6 @@ literal_sets : (t : List Literal) (v : ℕ) (b : Bool) → literal_of v b ∈ t 
 literal_sets t v true h = inl h
 literal_sets t v false h = inr h
 
-quantifier_same : (p q : Quantifier) → is_quantifier p q ≡ true → p ≡ q
-quantifier_same All All e = refl
-quantifier_same Exists Exists e = refl
-quantifier_same All Exists e = absurd (false≢true e)
-quantifier_same Exists All e = absurd (false≢true e)
-
 own_quantifier : (q : Quantifier) → is_quantifier q q ≡ true
 own_quantifier All = refl
 own_quantifier Exists = refl

@@ -196,19 +196,3 @@ decided_either at k value after a b d conditions c w gives is = record {
       (gives.value run s (values_before b d run is.grows has) tells);
   few = let one = gives.few in let two = is.few in omega (arith, one, two);
 }
-
-same_either : (c value : Bool) → value ≡ cond c value value
-same_either true value = refl
-same_either false value = refl
-
-pub decided_same : (at : Scene) (k : ℕ) (value : Bool) (after : Wire) (b : Built) (conditions : List Wire) → AreConditions at b conditions
-    → after.var < next_of b → after ≡ constant value → IsDecided at k value after b b conditions after
-decided_same at k value after b conditions are below is = record {
-  grows = grows_same b;
-  known = are;
-  below = below;
-  chooses = λ run s has tells.
-      let e : value_at run after ≡ value = ap (value_at run) is ∙ constant_value run value has.constant in
-      e ∙ (same_either (fires at s k) value ∙ ap (λ (x : Bool). cond (fires at s k) value x) (sym e));
-  few = omega arith;
-}

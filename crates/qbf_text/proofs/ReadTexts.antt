@@ -22,9 +22,6 @@ explained Spells Reads read first begins one only ts once =
     let r = accepted.each_leads_or_ends Spells Reads one [] first ts begins once in
     rw (only ts r.0 r.1) r.1
 
-pub unless : (b : Bool) {X : Type 0} → X → whole_texts.Unless b X
-unless b x = grind (arith, common_steps)
-
 module _ {A F : Type 0} (outside : F → Bool) (Spelled : List Token → A → Type 0) (Stands : List Lined → F → ℕ → Type 0) where
   is_read_as : (ts : List Lined) (whole result : Result A (F × ℕ)) → whole_texts.Reads Spelled Stands ts whole
       → Gives outside result (Some whole) → whole_texts.IsReadAs outside Spelled Stands ts result

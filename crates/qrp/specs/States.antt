@@ -11,7 +11,7 @@ use Rattle.qrp.specs.declared.states.State.TheVariants as at
 use Rattle.qrp.specs.declared.states.Lists.{Lists}
 use Rattle.qrp.specs.declared.states.Part.{Part}
 use Rattle.qrp.specs.declared.states.Part.TheVariants as part
-use Rattle.step_antecedents.specs.Antecedents.{list_of_pair}
+use Rattle.trace_items.specs.Antecedents.{list_of_pair}
 use Rattle.trace_items.specs.Inferences.{IsLiteral, IsNumber}
 use Rattle.qbf_text.specs.Rows.{Goes, Ends, Fails}
 use Rattle.qbf_text.specs.TakenNumbers.{LeadsOver, EndsOver}

@@ -17,7 +17,7 @@ use dimacs_syntax::{decode_member, extend_literals};
 use qbf_core::{LAST_VARIABLE, Quantifier};
 use qbf_text::Stop;
 use std::alloc::AllocError;
-use step_antecedents::{AntecedentLists, AntecedentPair};
+use trace_items::{AntecedentLists, AntecedentPair};
 use window_numbers::{Values, Zeros};
 
 /// Two places among the buffered numbers.

@@ -11,8 +11,7 @@ use qbf_core::Lit;
 use qbf_text::Source;
 use std::alloc::Global;
 use std::marker::Model;
-use step_antecedents::{AntecedentWords, Antecedents};
-use trace_items::{FlatSets, Header, KeptSteps, Outcome};
+use trace_items::{AntecedentWords, Antecedents, FlatSets, Header, KeptSteps, Outcome};
 
 /// A trace that was read as a whole. Its antecedents take four bytes each as long as all of them
 /// fit, so it gives them and cannot lend them.

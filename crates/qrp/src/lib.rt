@@ -31,11 +31,10 @@ pub use compact_trace::{CompactTrace, read_compact};
 pub use fault::TraceFault;
 pub use laws::{item_laws, trace_laws};
 pub use reader::TraceReader;
-pub use step_antecedents::Antecedents;
 pub use step_index::StepIndex;
 pub use trace::{FlatTrace, Trace, read_trace, read_trace as read_flat};
 pub use trace_items::{
-    FlatSets, Header, Item, KeptSets, KeptSteps, LentSets, LentSteps, Outcome, QuantSet, Step,
-    Steps,
+    Antecedents, FlatSets, Header, Item, KeptSets, KeptSteps, LentSets, LentSteps, Outcome,
+    QuantSet, Step, Steps,
 };
 pub use writing::{Frame, write_framed, write_framed_at, write_steps_at, write_trace};

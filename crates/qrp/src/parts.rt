@@ -1,7 +1,7 @@
 //! The parts of which a trace is made, whether it is read or pushed to.
 
 ghost use Rattle.std.specs.Prelude.{◌≡◌, false, [], ◌∷◌, ◌++◌, OnOk, OnErr};
-ghost use Rattle.step_antecedents.specs.Antecedents.{list_of_pair};
+ghost use Rattle.trace_items.specs.Antecedents.{list_of_pair};
 ghost use Rattle.qrp.specs.Flat.{after_close, kept_of, nothing_kept, ClosesPart, IsFlat};
 ghost use Rattle.qrp.specs.States.{IsComplete, Stays};
 ghost use Rattle.step_index.specs.Numbers.{is_used, AreStepNumbers};
@@ -9,9 +9,8 @@ ghost use Rattle.step_index.specs.Numbers.{is_used, AreStepNumbers};
 use crate::states::{Lists, Part};
 use qbf_core::{GrowingLists, Var};
 use std::alloc::{AllocError, Global};
-use step_antecedents::{AntecedentLists, AntecedentPair};
 use step_index::StepIndex;
-use trace_items::{FlatSets, Header};
+use trace_items::{AntecedentLists, AntecedentPair, FlatSets, Header};
 
 /// The parts of a trace. The antecedents of its whole steps are kept in an `A`.
 #[derive(Drop)]

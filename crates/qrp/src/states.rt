@@ -14,9 +14,8 @@ use dimacs_syntax::{HeaderAt, HeaderMove, decode_literal, decode_member, header_
 use qbf_core::{GrowingLists, LAST_VARIABLE, Lit, Quantifier, Var};
 use qbf_text::Stop;
 use qbf_tokens::Token;
-use step_antecedents::AntecedentPair;
 use step_index::StepIndex;
-use trace_items::{Header, Outcome};
+use trace_items::{AntecedentPair, Header, Outcome};
 
 /// The place of the next token. The lists so far are in `Lists`.
 #[derive(Clone, Copy)]

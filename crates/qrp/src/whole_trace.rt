@@ -16,8 +16,7 @@ use qbf_text::{Grammar, Progress, Scanner, Source, Stop, Taken, read_by};
 use qbf_tokens::{Comments, Token};
 use std::alloc::{AllocError, Global};
 use std::marker::Model;
-use step_antecedents::AntecedentLists;
-use trace_items::Outcome;
+use trace_items::{AntecedentLists, Outcome};
 use window_numbers::{Values, Zeros};
 
 /// A trace that is read as a whole. The antecedents of its whole steps are kept in an `A`.

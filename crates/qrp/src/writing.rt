@@ -18,8 +18,7 @@ use crate::trace::Trace;
 use dimacs_syntax::{Bare, Bytes, HeaderLine, Put};
 use qbf_core::{Lit, Quantifier, Var};
 use qbf_text::{Sink, SinkFault, put_bytes};
-use step_antecedents::Antecedents;
-use trace_items::{Header, KeptSets, KeptSteps, LentSets, LentSteps, Outcome};
+use trace_items::{Antecedents, Header, KeptSets, KeptSteps, LentSets, LentSteps, Outcome};
 
 /// The line of a set with this quantifier and these variables.
 #[inline(always)]

@@ -25,12 +25,6 @@ use Rattle.qrp_cli.specs.Program.{start_report, word, IsOnBoth, IsOnFormula, IsO
 use Rattle.qbf_text.specs.declared.source.Source as source
 use Rattle.qrp_cli.specs.Words.{IsRow, Request}
 
--- a row of the usage without a trace is one of `format`
-only_format : (words : List (List ℕ)) (j : Job) (i : ℕ) → IsRow words (record { job = j; formula = i; trace = None }) → j ≡ job.Format
-only_format words j i (inl (t, has, is)) = let no : None ≡ Some t.trace = ap (λ (r : Request). r.trace) is in absurd (cc no)
-only_format words j i (inr (inl (t, has, is))) = let no : None ≡ Some t.trace = ap (λ (r : Request). r.trace) is in absurd (cc no)
-only_format words j i (inr (inr (f, two, is))) = ap (λ (r : Request). r.job) is
-
 -- the word at a place, as it stands in a list of texts
 word_is : {A : Type 0} (f : A → List ℕ) (xs : List A) (i : ℕ) (x : A) (text : List ℕ) → i < length xs → x ≡ get_or xs i x → text ≡ f x
     → word (map f xs) i ≡ text

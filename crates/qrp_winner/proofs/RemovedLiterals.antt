@@ -49,9 +49,6 @@ length_taken zero lits = omega arith
 length_taken (suc n) [] = omega arith
 length_taken (suc n) (x ∷ lits) = let rest = length_taken n lits in omega (arith, rest)
 
-pub left_none : (own : Reducible) → IsLeft own [] []
-left_none own = record { within = λ l h. h; stays = λ l h. absurd h; each = λ l h. absurd h; few = omega arith }
-
 pub left_more : (own : Reducible) (lits : List Literal) (i : ℕ) (x : Literal) (old new : List Literal) → i < length lits → x ≡ get_or lits i x
     → IsLeft own (take i lits) old
     → ((l : Literal) → l ∈ new → (l ∈ old) ⊎ ((l ≡ x) × (TakesOut own x.var → ⊥)))

@@ -1,2 +1,3 @@
+pub mod AntecedentsInWords
 pub mod Positions
 pub mod SetLists

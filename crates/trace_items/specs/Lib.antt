@@ -1,3 +1,4 @@
+pub mod Antecedents
 pub mod Inferences
 pub mod Derivations
 pub mod SetLists

@@ -1,22 +1,29 @@
-//! The items of a trace: its header, its quantifier sets, its steps and its result, and the sets
-//! and the steps of a whole one however they are kept.
+//! The items of a trace: its header, its quantifier sets, its steps and its result, and the sets,
+//! the steps and their antecedents of a whole one however they are kept.
 //!
 //! - Owns: header, sets, steps and result of a trace.
 //! - Offers: `Item`, `Header`, `QuantSet`, `Step`, `Outcome`; `Steps`, `KeptSteps`, `LentSteps`;
-//!   `KeptSets`, `LentSets`, `FlatSets`.
+//!   `KeptSets`, `LentSets`, `FlatSets`; `Antecedents`, `AntecedentPair`; `AntecedentLists`,
+//!   `AntecedentWords`.
 //! - Proved: one contract for sets and one for steps, however they are kept; sets in one buffer are
-//!   the sets that were added.
-//! - Read first: `Steps`, `KeptSteps`, `KeptSets`, `FlatSets::push`.
-//! - Tested only: by the tests of `qrp`.
+//!   the sets that were added; the antecedents of each step are kept in the order of the steps, in a
+//!   word or not.
+//! - Read first: `Steps`, `KeptSteps`, `KeptSets`, `FlatSets::push`, `AntecedentWords::get`.
+//! - Tested only: by the tests of `qrp`, and by the crate `trace_tests`: antecedents that a word
+//!   holds, and greater ones.
 //! - Trusted: nothing.
 //! - On the map: header, sets, steps, result.
 #![tactic(auto)]
 
+mod antecedent_lists;
+mod antecedents;
 mod flat_sets;
 mod item;
 mod kept_steps;
 mod steps;
 
+pub use antecedent_lists::{AntecedentLists, AntecedentWords};
+pub use antecedents::{AntecedentPair, Antecedents};
 pub use flat_sets::{FlatSets, KeptSets, LentSets};
 pub use item::{Header, Item, Outcome, QuantSet, Step};
 pub use kept_steps::{KeptSteps, LentSteps};

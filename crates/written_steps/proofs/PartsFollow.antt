@@ -12,13 +12,6 @@ use Rattle.written_steps.specs.declared.parts.Part.{Part}
 use Rattle.written_steps.specs.declared.parts.Parts.{Parts}
 use Rattle.written_steps.specs.Parts.{AreParts, IsPart, AreReducibleAfter, ReducesWhole, ResolvesWhole}
 
--- a literal after some blocks is reducible in a list whose deciding literals are before them
-pub after_is_reducible : (side : Side) (blocks : List Block) (reach : ℕ) (lits : List Literal)
-    → ((l : Literal) → l ∈ lits → IsHeldBefore blocks (deciding_quantifier side) None l.var reach)
-    → (l : Literal) → StandsAfter blocks (reduced_quantifier side) reach l.var → IsReducible side blocks lits l
-after_is_reducible side blocks reach lits before l stands =
-    (stands.0, λ m h binds i j ei ej. let less = before m h (λ none. none) binds i ei in let after = stands.1 j ej in omega (arith, less, after))
-
 -- no literal with the deciding quantifier is reducible
 not_reducible : (side : Side) (blocks : List Block) (lits : List Literal) (l : Literal)
     → Binds blocks (deciding_quantifier side) l.var → IsReducible side blocks lits l → ⊥

@@ -1,5 +1,5 @@
 use Rattle.core_walk.proofs.Cited.{[], ◌∷◌, ap, sym, ◌∙◌}
-use Rattle.step_antecedents.specs.Antecedents.{listed}
+use Rattle.trace_items.specs.Antecedents.{listed}
 use Rattle.core_walk.proofs.Marking.{IsMarkedWith, marked_found, marked_none}
 use Rattle.core_walk.proofs.marks.mark_named.Goals as goal
 

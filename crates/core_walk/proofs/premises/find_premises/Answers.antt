@@ -1,5 +1,5 @@
 use Rattle.core_walk.proofs.Cited.{ap, sym, ◌∙◌, inl, inr, refl}
-use Rattle.step_antecedents.specs.Antecedents.{listed}
+use Rattle.trace_items.specs.Antecedents.{listed}
 use Rattle.core_walk.proofs.CoreStep.{not_earlier, premise_of}
 use Rattle.core_walk.proofs.premises.find_premises.Goals as goal
 

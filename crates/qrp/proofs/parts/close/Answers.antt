@@ -1,5 +1,5 @@
 use Rattle.qrp.proofs.Cited.{refl, ◌∷◌, ◌++◌, [], AreStepNumbers, kept_of, Inference}
-use Rattle.step_antecedents.specs.Antecedents.{list_of_pair}
+use Rattle.trace_items.specs.Antecedents.{list_of_pair}
 use Rattle.qrp.proofs.FlatSteps.{numbered_more, flat_pushed}
 use Rattle.qrp.proofs.parts.close.Goals as goal
 

@@ -1,5 +1,5 @@
 use Rattle.qrp_check.proofs.Cited.{◌∙◌, [], ap, sym}
-use Rattle.step_antecedents.specs.Antecedents.{listed}
+use Rattle.trace_items.specs.Antecedents.{listed}
 use Rattle.qrp_winner.proofs.FoundOrigins.{earlier_lits, step_rows}
 use Rattle.qrp_winner.proofs.origins.origin_of.Goals as goal
 

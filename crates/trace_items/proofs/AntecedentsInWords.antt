@@ -3,7 +3,7 @@ use Rattle.std.proofs.Common.{arith, refl, ◌≡◌, ◌<◌, ◌-◌, ◌+◌,
 use Rattle.std.specs.Prelude.{take, ◌*◌}
 use Rattle.std.proofs.Math.Seq.{take-append-add}
 use Rattle.std.proofs.lemmas.Nat.{div-mul-add, mod-mul-add}
-use Rattle.step_antecedents.specs.Antecedents.{list_of_two, list_of_word}
+use Rattle.trace_items.specs.Antecedents.{list_of_two, list_of_word}
 
 -- the last list is one of the later ones, if there are such
 pub last_of_later : {X : Type 0} (xs ys : List X) → (length ys ≡ 0 → ⊥)

@@ -1,8 +1,8 @@
 //! The antecedents of a step.
 
 ghost use Rattle.std.specs.Prelude.{◌≡◌, ◌≤◌, [], ◌∷◌, ◌++◌, true, length, nat_lt, IsTrue, IfOk};
-ghost use Rattle.step_antecedents.specs.Antecedents.{list_of_pair, list_of_two, listed};
-ghost use Rattle.step_antecedents.specs.Antecedents.{AreNumbers};
+ghost use Rattle.trace_items.specs.Antecedents.{list_of_pair, list_of_two, listed};
+ghost use Rattle.trace_items.specs.Antecedents.{AreNumbers};
 
 use std::alloc::{AllocError, Global};
 

@@ -2,7 +2,7 @@
 
 ghost use Rattle.std.specs.Prelude.{◌≡◌, ◌≤◌, ◌<◌, ◌-◌, ℕ, List, [], ◌∷◌, ◌++◌, Some};
 ghost use Rattle.std.specs.Prelude.{length, take, slice_get, false, IfSome, IsTrue, OnOk, OnErr};
-ghost use Rattle.step_antecedents.specs.Antecedents.{list_of_pair, list_of_word, listed};
+ghost use Rattle.trace_items.specs.Antecedents.{list_of_pair, list_of_word, listed};
 
 use crate::antecedents::{AntecedentPair, Antecedents};
 use qbf_core::GrowingLists;
@@ -97,7 +97,7 @@ pub struct AntecedentWords {
 
 impl Model for AntecedentWords {
     ghost use Rattle.std.specs.Prelude.{ℕ, List, ◌++◌, map};
-    ghost use Rattle.step_antecedents.specs.Antecedents.{list_of_word};
+    ghost use Rattle.trace_items.specs.Antecedents.{list_of_word};
 
     ghost Value = { List (List ℕ) };
 

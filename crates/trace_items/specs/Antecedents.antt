@@ -1,9 +1,9 @@
 -- The antecedents of a step: none, one or two.
 use Rattle.std.specs.Prelude.{ℕ, zero, suc, ◌/◌, ◌%◌, ◌≤◌, List, [], ◌∷◌}
 use Rattle.std.specs.List.{AllByRecursion}
-use Rattle.step_antecedents.specs.declared.antecedents.AntecedentPair.{AntecedentPair}
-use Rattle.step_antecedents.specs.declared.antecedents.Antecedents.{Antecedents}
-use Rattle.step_antecedents.specs.declared.antecedents.Antecedents.TheVariants.{Empty, One, Two}
+use Rattle.trace_items.specs.declared.antecedents.AntecedentPair.{AntecedentPair}
+use Rattle.trace_items.specs.declared.antecedents.Antecedents.{Antecedents}
+use Rattle.trace_items.specs.declared.antecedents.Antecedents.TheVariants.{Empty, One, Two}
 
 -- their numbers, in order
 abbrev pub listed : Antecedents → List ℕ
