@@ -2,21 +2,28 @@
 
 import os
 import sys
-import tempfile
 from pathlib import Path
 
 from crates import Stopped
-from fast_ways import PROGRAM, ROOT, FastWay, lay_out, switched
+from fast_ways import PROGRAM, ROOT, FastWay, switched
 from inputs import INPUTS
-from reached import Lines, Program
+from rooms import Files
 
 PAGE = ROOT / "docs" / "FAST.md"
 ROWS = ROOT / "docs" / "fast.rows"
 WIDTH = 142
-SHORT = 0.01  # seconds: less than that says nothing of time
+SHORT = 0.02  # seconds: less than that says nothing of time
 # How a row names the program without all fast ways.
 PLAIN = "plain"
-HEAD = """# lines NAME LINES-OF-FUNCTIONS LINES-OF-THEIR-PROOFS LINES-OF-LEMMAS: what main does not reach without a fast way, or without all
+# The rooms of the house beside those of the checker, by the crates at which each begins. What the rooms before need is none of the next ones.
+ROOMS = {
+    "strategies": ["qrp_strategy"],
+    "the library": ["qrp_c"],
+    "questions in gates": ["qcir", "gate_clauses"],
+    "completeness": ["qbf_completeness", "qrp_completeness"],
+}
+CHECKER, FAST, LINEAR, REST = "the checker", "fast ways", "what keeps a check linear", "laws, worked rows and tests"
+HEAD = """# lines NAME LINES FILES: what is behind the doors of a fast way, or in a room
 # run NAMES INPUT INSTRUCTIONS-WITHOUT INSTRUCTIONS SECONDS-WITHOUT SECONDS: by bench/without
 # machine WORDS: where the last run was, and the load of that minute
 """
@@ -54,27 +61,37 @@ def ratio(without: str, of_all: str) -> str:
     return f"{value:.{digits}f}"
 
 
-# ---- lines that are not reached
+# ---- lines
 
 
-def lines_of(ways: list[FastWay]) -> Lines:
-    """The lines that `main` reaches in a tree without some fast ways."""
-    with tempfile.TemporaryDirectory() as folder:
-        lay_out(Path(folder) / "tree", ways, kept=False)
-        return Program(Path(folder) / "tree", PROGRAM, {name for way in ways for name in way.never}).lines
+def doors(way: FastWay, known: dict[str, FastWay]) -> set[Path]:
+    """The doors of a fast way, and of those that it carries."""
+    carried = [file for other in known.values() if other.under == way.name for file in doors(other, known)]
+    return {ROOT / "crates" / name for name in way.doors} | set(carried)
 
 
-def all_lines(known: dict[str, FastWay]) -> dict[str, Lines]:
-    """The lines that are not reached without each fast way, and without all."""
-    whole = lines_of([])
-    found = {name: whole - lines_of([way]) for name, way in known.items()}
-    return found | {PLAIN: whole - lines_of([way for way in known.values() if not way.keeps_linear])}
+def all_lines(known: dict[str, FastWay]) -> dict[str, tuple[int, int]]:
+    """The lines and the files behind the doors of each fast way, and in each room."""
+    files = Files(ROOT)
+    program = files.of_crate(PROGRAM)
+    found = {name: files.behind(program, doors(way, known)) for name, way in known.items()}
+    checker = files.needed(program)
+    fast = files.behind(program, {door for way in known.values() if not way.keeps_linear for door in doors(way, {way.name: way})})
+    both = files.behind(program, {door for way in known.values() for door in doors(way, known)})
+    found |= {CHECKER: checker - both, LINEAR: both - fast, FAST: fast}
+    entered = set(checker)
+    for room, crates in ROOMS.items():
+        needed = files.needed({file for crate in crates for file in files.of_crate(crate)})
+        found[room] = needed - entered
+        entered |= needed
+    found[REST] = set(files.texts) - entered
+    return {name: (files.lines(some), len(some)) for name, some in found.items()}
 
 
 def store_lines(known: dict[str, FastWay]) -> None:
     """Counts the lines anew, and keeps them."""
-    for name, lines in all_lines(known).items():
-        put_row("lines", [name, str(lines.functions), str(lines.proofs), str(lines.lemmas)], 1)
+    for name, (lines, files) in all_lines(known).items():
+        put_row("lines", [name, str(lines), str(files)], 1)
 
 
 # ---- the page
@@ -98,21 +115,29 @@ def depth(way: FastWay, known: dict[str, FastWay]) -> int:
 
 
 def counted(name: str) -> str:
-    """The lines of a fast way in words."""
+    """The lines of a fast way or of a room in words."""
     found = [row[1:] for row in rows("lines") if row[0] == name]
-    if not found:
-        return "lines not counted"
-    functions, proofs, lemmas = map(int, found[0])
-    parts = [f"{functions} lines of functions" if functions else "no function of its own"]
-    parts += [f"{count} of {what}" for count, what in ((proofs, "their proofs"), (lemmas, "lemmas")) if count]
-    return ", ".join(parts)
+    return f"{int(found[0][0]):,} lines in {found[0][1]} files" if found else "lines not counted"
+
+
+def behind(way: FastWay) -> str:
+    """What is behind the doors of a fast way, in words."""
+    files = [Path(name) for name in way.doors]
+    names = ", ".join(f"`{file.name}`" + (f" of `{file.parts[0]}`" if file.parts[0] != way.crate else "") for file in files)
+    return f"Behind {names}: {counted(way.name)}." if files else "It has no file of its own."
+
+
+def rooms() -> str:
+    """The rooms of the house and their sizes."""
+    names = [CHECKER, LINEAR, FAST, *ROOMS, REST]
+    return "\n".join(["| Room | Size |", "|---|---|", *(f"| {name} | {counted(name)} |" for name in names)])
 
 
 def item(way: FastWay, known: dict[str, FastWay]) -> str:
     """A point of the tree."""
     front = "  " * depth(way, known)
     places = ", ".join(f"`{place}`" for place in switched(way))
-    says = f"{way.says[:1].upper()}{way.says[1:]}. Switch `{way.name}`: {places} of `{way.crate}`. {counted(way.name).capitalize()}."
+    says = f"{way.says[:1].upper()}{way.says[1:]}. Switch `{way.name}`: {places} of `{way.crate}`. {behind(way)}"
     return wrapped(f"**{way.title[:1].upper()}{way.title[1:]}.** {says}", front + "  ", f"{front}- ")
 
 
@@ -192,7 +217,7 @@ def text(known: dict[str, FastWay]) -> str:
         prices=table(fast, known),
         linear_prices=table(linear, known),
         plain=plain_prices(),
-        plain_lines=counted(PLAIN),
+        rooms=rooms(),
         inputs=inputs,
         machine=machine,
         left=not_measured(known),
@@ -214,11 +239,20 @@ the program there, and measure it beside the one of the tree. `bench/check-plain
 
 ## The fast ways
 
-They are a tree: one that is set in is of no use without the one above it. Prices of one branch do not multiply. The lines are those that `main`
-no longer reaches without it, by the names of functions: at least so many. Of a function that stays reached those count that stand behind a test
-that is known then.
+They are a tree: one that is set in is of no use without the one above it. Prices of one branch do not multiply. A fast way begins at its doors:
+files that only it brings in. The lines are those of all files of code, definitions and proofs that nothing else needs, with those of the fast
+ways that are set in below it.
 
 {tree}
+
+## What may stay closed
+
+Who reads the checker has the first room in the head, and may leave the doors of the others closed.
+
+{rooms}
+
+The last row has what no file of the rooms names: laws that say what the definitions mean, worked rows of definitions, and crates of tests.
+`bench/without --lines` counts.
 
 ## What each buys
 
@@ -226,7 +260,6 @@ that is known then.
 
 ## The plain program
 
-Without all of them `main` reaches less: {plain_lines}.
 {plain}
 
 ## What keeps a check linear
@@ -241,9 +274,9 @@ and parts of long antecedents are used only while a step is judged as it is writ
 ## How it was measured
 
 Instructions are those that `valgrind --tool=callgrind` counts, which other work on the machine does not change; CPU time is the least of seven runs
-of both programs by turns, which it does, and is left out below a hundredth of a second. The inputs are small, so that a start of the program counts in them too. Several fast ways may be out of
+of both programs by turns, which it does, and is left out below two hundredths of a second. The inputs are small, so that a start of the program counts in them too. Several fast ways may be out of
 use in one run, if none of them counts on the inputs of another. The command is `bench/without --store NAME ..`. The machine had {machine}.
-Each run is of the tree as it was then; the lines are those of the tree as it is.
+Each run is of the tree as it was then; the lines are those of the tree of the last count.
 So compare instructions first: times of a machine with other work differ by a tenth and more.
 
 {inputs}

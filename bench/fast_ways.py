@@ -2,8 +2,8 @@
 
 Each has a switch, an edit of bench/switches in the form of those of must-fail (gate/mutants/edits.py reads it): lines `file:`, `old:` and `new:`,
 one line for one line. Lines before these name it in plain words (`title:`), say what it is (`is:`), which crate the file is of (`crate:`), which
-fast way it is of no use without (`under:`), that it is none but keeps a check linear (`keeps:`), which functions are then never called, though
-a body names them (`never:`), on which inputs it is measured (`inputs:`), and on which others it counts too (`also:`).
+fast way it is of no use without (`under:`), that it is none but keeps a check linear (`keeps:`), the files at which it begins, if it has some of its
+own (`doors:`), on which inputs it is measured (`inputs:`), and on which others it counts too (`also:`).
 """
 
 import hashlib
@@ -34,7 +34,7 @@ class FastWay:
     crate: str
     under: str
     keeps_linear: bool
-    never: tuple[str, ...]
+    doors: tuple[str, ...]
     inputs: tuple[str, ...]
     also: tuple[str, ...]
     changes: tuple[tuple[str, str, str], ...]
@@ -48,8 +48,8 @@ def read_fast_way(path: Path) -> FastWay:
     if missing:
         raise Stopped(f"{path.name} has no line {missing[0]}:")
     changes = tuple((file, old, new) for file, old, new, _ in pairs_of(path.read_text(encoding="utf-8")))
-    never, inputs, also = (tuple(said.get(word, "").split()) for word in ("never", "inputs", "also"))
-    return FastWay(path.stem, said["title"], said["is"], said["crate"], said.get("under", ""), "keeps" in said, never, inputs, also, changes)
+    doors, inputs, also = (tuple(said.get(word, "").split()) for word in ("doors", "inputs", "also"))
+    return FastWay(path.stem, said["title"], said["is"], said["crate"], said.get("under", ""), "keeps" in said, doors, inputs, also, changes)
 
 
 def fast_ways() -> dict[str, FastWay]:

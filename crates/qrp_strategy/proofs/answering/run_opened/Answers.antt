@@ -1,7 +1,0 @@
-use Rattle.std.proofs.Common.{refl}
-use Rattle.qrp_cli.specs.Output.{Errors}
-use Rattle.qrp_cli.specs.Program.{start_report}
-use Rattle.qrp_strategy.proofs.answering.run_opened.Goals as goal
-
-pub returns-in-Err : goal.returns-in-Err
-returns-in-Err g c = (start_report Errors c.in-Err.start, rw c.in-Err.is refl, (c.stop.ensures, refl))
