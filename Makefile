@@ -98,6 +98,7 @@ test: $(PROVED)
 	gate/check-promises
 	gate/check-memory-faults
 	gate/check-adapters
+	gate/check-wall
 	docs/describe-crates --check
 	$(MAKE) --no-print-directory check
 

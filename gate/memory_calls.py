@@ -122,7 +122,8 @@ class Reading:
         start -= texts[start - 1] == "mut"
         start -= texts[start - 1] == "&"
         is_argument = texts[start - 1] in ("(", ",") and texts[end] in (")", ",") and texts[open_] == "("
-        return is_argument and texts[open_ - 1] in self.takers
+        name = self.tokens.start_of_types(open_ - 1) if texts[open_ - 1] == ">" else open_ - 1
+        return is_argument and texts[name] in self.takers
 
     def is_bound(self, equals: int, end: int) -> bool:
         """Whether the result that a pattern before an equals sign takes is handed on."""

@@ -420,7 +420,7 @@ def try_types():
     if not shutil.which("mypy"):
         skip("the types of the modules", "there is no mypy")
         return
-    commands = ["check-adapters", "check-memory-faults", "check-promises", "prove", "try-wrong-bodies", "try-wrong-definitions"]
+    commands = ["check-adapters", "check-memory-faults", "check-promises", "check-wall", "prove", "try-wrong-bodies", "try-wrong-definitions"]
     tools = ["qrptools", *sorted({tool.name for tool in TOOLS})]
     measurements = sorted(path.name for path in (ROOT / "bench").iterdir() if path.is_file() and is_python(path))
     others = os.pathsep.join(str(ROOT / name) for name in ("gate", "tests", "tests/tools"))  # whose modules those of bench use

@@ -2,12 +2,13 @@
 //! memory. Other command lines are words of tests/program/parts/words.
 
 ghost use Rattle.std.specs.Prelude.{◌≡◌, ◌≢◌, ◌⊎◌, Some, Ok, Err, codes};
-ghost use Rattle.qrp_cli.specs.declared.open_fault.OpenFault.{OpenFault};
+ghost use Rattle.qrp_program.specs.declared.open_fault.OpenFault.{OpenFault};
 
 use crate::runs::{REFUTATION, TWO_CLAUSES, VERIFIED, assert_same, sinks};
 use qbf_text::{FromRead, PieceSink, VecSink};
 use qrp_check::Rules;
-use qrp_cli::{Job, LIMIT, Open, OpenFault, Start, Status, program, request};
+use qrp_cli::{Job, request};
+use qrp_program::{LIMIT, Open, OpenFault, Start, Status, program};
 use std::alloc::{AllocError, Global};
 use std::test::Fail;
 
@@ -67,7 +68,7 @@ fn asks_for_a_job(rt: HostRuntime) -> Result<(), Fail> {
 fn run_on_words(alloc: Global, words: &[&str]) -> Result<(VecSink, VecSink, Status), Fail> {
     let (mut out, mut err) = sinks(alloc)?;
     let words = given(alloc, words)?;
-    let status = program(alloc, &FILES, Ok(words), &mut out, &mut err);
+    let status = program::<Job, _, _, _>(alloc, &FILES, Ok(words), &mut out, &mut err);
     Ok((out, err, status))
 }
 
@@ -110,7 +111,7 @@ fn words_that_are_not_got(rt: HostRuntime) -> Result<(), Fail> {
     let mut out = VecSink::new(rt.alloc(), 0)?;
     // The status stays if the line does not go out.
     let mut err = PieceSink::new(rt.alloc(), 4, Some(3), false, 0)?;
-    let status = program(rt.alloc(), &FILES, Err(Start::Usage), &mut out, &mut err);
+    let status = program::<Job, _, _, _>(rt.alloc(), &FILES, Err(Start::Usage), &mut out, &mut err);
     assert_same(
         &rt,
         (err.bytes(), status),

@@ -2,7 +2,8 @@
 
 use qbf_text::{FromRead, PieceSink, PieceSource, SliceSource, VecSink};
 use qrp_check::Rules;
-use qrp_cli::{Job, Status, run};
+use qrp_cli::{Job, run};
+use qrp_program::Status;
 use std::alloc::Global;
 use std::fmt::Debug;
 use std::process::Abort;

@@ -1,58 +1,28 @@
--- From a run over opened files to the report of the program.
-use Rattle.std.proofs.Common.{arith, rules, nat_eq, if◌then◌else◌, ◌≡◌, ◌∙◌, ◌<◌, ℕ, Bool, List, [], Option, Some, None, IfSome, inl, inr, sym, ap, map, length, get_or}
-use Rattle.std.proofs.Common.{Result, Ok, Err, IfOk, IfErr, OnOk}
+-- From a verdict to the report of a job.
+use Rattle.std.proofs.Common.{arith, nat_eq, if◌then◌else◌, ◌≡◌, ◌∙◌, ℕ, Bool, List, Option, Some, IfSome, inl, inr, sym, ap}
+use Rattle.std.proofs.Common.{Result, Ok, Err, IfOk, OnOk}
 use Rattle.std.proofs.lemmas.Grind.{common_steps}
-use Rattle.std.proofs.lemmas.List.{get_or-map}
 use Rattle.qrp_cli.specs.declared.job.Job.{Job}
 use Rattle.qrp_cli.specs.declared.job.Job.TheVariants as job
 use Rattle.qrp_rules.specs.declared.rules.Rules.{Rules}
 use Rattle.qrp_check.specs.declared.verdict.Verified.{Verified}
 use Rattle.qrp_check.specs.declared.verdict.Fault.{Fault}
-use Rattle.qrp_cli.specs.declared.start.Start.{Start}
 use Rattle.std.specs.Io.KnownBytes.{Appends}
 use Rattle.qbf_text.specs.declared.sink.Sink as sinks
 use Rattle.qrp_check.specs.declared.fault.CheckFault.TheVariants.{C1, C2, C3, C4, C5, C6}
 use Rattle.qrp_check.specs.Headline.{Headline}
 use Rattle.qrp_report.specs.Lines.{fault_line, verdict_line}
 use Rattle.qrp_report.specs.Refusals.{fault_status, formula_number, trace_number}
-use Rattle.qrp_cli.specs.Output.{IsOn, IsReportedTo, IsSent, PrintsVerdict, Report, check_report, refusal, refusals, success, trimmed_result}
+use Rattle.qrp_cli.specs.Output.{PrintsVerdict, check_report, refusals, trimmed_result}
+use Rattle.qrp_program.specs.Output.{IsOn, IsReportedTo, IsSent, refusal, success}
 use Rattle.trace_items.specs.Derivations.{Derivation}
 use Rattle.qrp_check.specs.Checked.{SourceCall, IsChecked, StopsOnceRead, WasReadFrom, truth_of, verdict_of}
 use Rattle.qrp_check.specs.declared.verdict.Fault.TheVariants as fault
 use Rattle.qrp_report.specs.Results.{IsTrimmed}
 use Rattle.qrp_report.proofs.ResultsOfBytes.{trims}
-use Rattle.qrp_cli.specs.Program.{start_report, word, IsOnBoth, IsOnFormula, IsOnFiles, IsOnOpened, IsProgram, Opens}
-use Rattle.qbf_text.specs.declared.source.Source as source
-use Rattle.qrp_cli.specs.Words.{IsRow, Request}
-
--- the word at a place, as it stands in a list of texts
-word_is : {A : Type 0} (f : A → List ℕ) (xs : List A) (i : ℕ) (x : A) (text : List ℕ) → i < length xs → x ≡ get_or xs i x → text ≡ f x
-    → word (map f xs) i ≡ text
-word_is f xs i x text below is same = get_or-map f xs i x [] below ∙ ap f (sym is) ∙ sym same
-
--- the report on the files that the words of a row name
-module _ {A F : Type 0} (files : source.Ghosts F) (opens : Opens) (bytes : A → List ℕ) (xs : List A) (r : Report) where
-  pub of_both : (j : Job) (i k : ℕ) (trace : Option ℕ) (x y : A) (first second : List ℕ)
-      → IsRow (map bytes xs) (record { job = j; formula = i; trace = trace })
-      → (i < length xs) × IfSome trace (λ t. t < length xs) → trace ≡ Some k
-      → x ≡ get_or xs i x → first ≡ bytes x → y ≡ get_or xs k y → second ≡ bytes y
-      → IsOnFiles files opens j first (Some second) r → IsProgram files opens (map bytes xs) r
-  of_both j i k trace x y first second row within is is_x same_x is_y same_y on =
-      let inside = rw is at within in
-      inr (
-        record { job = j; formula = i; trace = Some k },
-        rw is at row,
-        rw (word_is bytes xs i x first inside.0 is_x same_x, word_is bytes xs k y second inside.1 is_y same_y) on,
-      )
-
-  pub of_formula : (j : Job) (i : ℕ) (trace : Option ℕ) (x : A) (first : List ℕ)
-      → IsRow (map bytes xs) (record { job = j; formula = i; trace = trace })
-      → (i < length xs) × IfSome trace (λ t. t < length xs) → trace ≡ None → x ≡ get_or xs i x → first ≡ bytes x
-      → (j ≡ job.Format → IsOnFiles files opens j first None r) → IsProgram files opens (map bytes xs) r
-  of_formula j i trace x first row within is is_x same_x on = grind (arith, common_steps)
 
 -- a check is reported on the first sink
-pub on_out : (rules : Rules) (answer : Result Verified Fault) (out errors : Type 0) → out → IsOn (check_report rules answer).sink out errors
+pub on_out : (rules : Rules) (answer : Result Verified Fault) (out errors : Type 0) → out → IsOn (check_report rules answer).stream out errors
 on_out rules (Ok v) out errors h = h
 on_out rules (Err e) out errors h = h
 
@@ -63,32 +33,9 @@ truth_report by truth (Ok v) is = let same : truth ≡ v.truth = cc is in ap (λ
 truth_report by truth (Err e) is = absurd (cc is)
 
 pub fault_report : (rules : Rules) (e : Fault) (verdict : Result Verified Fault) → ◌≡◌ {A = Result Bool Fault} (Err e) (truth_of verdict)
-    → check_report rules verdict ≡ refusal (job.Check rules) e
+    → check_report rules verdict ≡ refusal (refusals (job.Check rules)) e
 fault_report by e (Ok v) is = absurd (cc is)
-fault_report by e (Err f) is = let same : e ≡ f = cc is in ap (refusal (job.Check by)) (sym same)
-
--- the report on what was opened is the one on the files
-pub on_files : {F : Type 0} (files : source.Ghosts F) (opens : Opens) (first second : List ℕ) (j : Job) (opened left : Result (F × F) Start)
-    (r : Report)
-    → IfOk opened (λ f. (job : Job) (r : Report) → IsOnBoth files files job f.0 f.1 r → IsOnFiles files opens job first (Some second) r)
-    → IfErr opened (λ start. (job : Job) → IsOnFiles files opens job first (Some second) (start_report (refusals job) start))
-    → IsOnOpened files files j opened left r → IsOnFiles files opens j first (Some second) r
-on_files files opens first second j (Ok f) (Ok g) r ok err on = ok j r (g.0, g.1, on)
-on_files files opens first second j (Ok f) (Err start) r ok err on = absurd on
-on_files files opens first second j (Err start) left r ok err on = rw on (err j)
-
--- the same of `format`, whatever the bound of the other source is
-pub on_formula : {F T : Type 0} (files : source.Ghosts F) (remaining : T → Option (List ℕ)) (failures : T → ℕ) (opens : Opens)
-    (first : List ℕ) (j : Job) (opened left : Result (F × T) Start) (r : Report) → j ≡ job.Format
-    → IfOk opened (λ f. (job : Job) (r : Report) → IsOnFormula files f.0 r → IsOnFiles files opens job first None r)
-    → IfErr opened (λ start. (job : Job) → IsOnFiles files opens job first None (start_report (refusals job) start))
-    → IsOnOpened files (record { remaining = remaining; bound = λ t. 0; failures = failures }) j opened left r
-    → IsOnFiles files opens j first None r
-on_formula files remaining failures opens first job.Format (Ok f) (Ok g) r formats ok err on = ok job.Format r (g.0, on)
-on_formula files remaining failures opens first job.Format (Ok f) (Err start) r formats ok err on = absurd on
-on_formula files remaining failures opens first job.Format (Err start) left r formats ok err on = rw on (err job.Format)
-on_formula files remaining failures opens first (job.Check rules) opened left r formats ok err on = absurd (cc formats)
-on_formula files remaining failures opens first (job.Trim rules) opened left r formats ok err on = absurd (cc formats)
+fault_report by e (Err f) is = let same : e ≡ f = cc is in ap (refusal (refusals (job.Check by))) (sym same)
 
 -- the status of a refusal is not 0
 abbrev text_status : ℕ → ℕ

@@ -1,22 +1,9 @@
 -- The words of the command line.
-use Rattle.std.specs.Prelude.{◌≡◌, ℕ, true, false, List, [], ◌∷◌, ◌⊎◌, Option, Some, None, codes}
+use Rattle.std.specs.Prelude.{◌≡◌, ℕ, List, [], ◌∷◌, ◌⊎◌, Some, None, codes}
 use Rattle.qrp_rules.specs.declared.rules.Rules.{Rules}
 use Rattle.qrp_cli.specs.declared.job.Job.{Job}
 use Rattle.qrp_cli.specs.declared.job.Job.TheVariants as job
-
--- a job, and the places of its formula and its trace among the words
-pub record Request : Type 0 where
-  pub job : Job
-  pub formula : ℕ
-  pub trace : Option ℕ
-
--- Q-resolution and term resolution, with no flag
-abbrev pub plain : Rules
-plain = record { any_pivot = false }
-
--- pivots of either quantifier, with the flag --qu
-abbrev pub any_pivot : Rules
-any_pivot = record { any_pivot = true }
+use Rattle.qrp_program.specs.Words.{Request, any_pivot, plain}
 
 -- the rules that a trace is checked by, and the places of the formula and the trace among the words
 pub record Texts : Type 0 where
@@ -33,7 +20,7 @@ HasTexts command words r =
     × (r ≡ record { rules = any_pivot; formula = 1; trace = 2 })))
 
 -- the words after the program's name are a row of the usage; any word may name a file
-abbrev pub IsRow : List (List ℕ) → Request → Type 0
+abbrev pub IsRow : List (List ℕ) → Request Job → Type 0
 IsRow words r =
     ((t : Texts) × HasTexts (codes "check") words t × (r ≡ record { job = job.Check t.rules; formula = t.formula; trace = Some t.trace }))
     ⊎ (((t : Texts) × HasTexts (codes "trim") words t × (r ≡ record { job = job.Trim t.rules; formula = t.formula; trace = Some t.trace }))

@@ -1,29 +1,20 @@
-//! The program without the system: command lines, jobs, and reports.
+//! The jobs of `qrp_cmd`, without the system: check, trim and format.
 //!
-//! - Owns: reports, command lines: the program without the system.
-//! - Offers: `program`, `Open`.
-//! - Proved: `program` writes exactly the report of the command line's job on the files that it
-//!   names to the right sink, with its status, whatever opens the files; `run` the same for two
-//!   sources; `request` accepts exactly the command lines of the usage.
-//! - Read first: `program`, `run`, `request`, `Start::line`, `Start::status`.
+//! - Owns: command lines and jobs of the program.
+//! - Offers: `Job`, `request`, `run`.
+//! - Proved: `run` writes exactly the report of its job for two sources; `request` accepts exactly
+//!   the command lines of the usage.
+//! - Read first: `run`, `request`.
 //! - Tested only: the crate `program_tests`: command lines, files in memory, pulls and pushes that
 //!   fail at each position.
 //! - Trusted: nothing.
-//! - On the map: command lines and reports.
+//! - On the map: check, trim and format.
 #![tactic(auto)]
 
-mod answering;
 mod job;
-mod open;
-mod open_fault;
 mod running;
-mod start;
 mod words;
 
-pub use answering::{open_file, program, stop};
 pub use job::Job;
-pub use open::{LIMIT, Open};
-pub use open_fault::OpenFault;
-pub use running::{Status, finish_sent, run, send_fault};
-pub use start::Start;
-pub use words::{is_word, request};
+pub use running::run;
+pub use words::request;

@@ -3,7 +3,6 @@
 ghost use Rattle.std.specs.Prelude.{◌≡◌, ◌<◌, List, ℕ, Some, Result, IfOk, length};
 ghost use Rattle.std.specs.List.{AllByRecursion};
 ghost use Rattle.qbf_core.specs.Qbf.{Qbf};
-ghost use Rattle.qbf_text.specs.Written.{IsPut};
 ghost use Rattle.qdimacs.specs.declared.fault.FormulaFault.{FormulaFault};
 ghost use Rattle.qdimacs.specs.Grammar.{text};
 ghost use Rattle.qrp.specs.Grammar.{text as trace_text};
@@ -11,45 +10,24 @@ ghost use Rattle.qrp_check.specs.Checked.{IsChecked, StopsOnceRead, call_of, tru
 ghost use Rattle.qrp_check.specs.declared.verdict.Fault.{Fault};
 ghost use Rattle.qrp_check.specs.declared.verdict.Verified.{Verified};
 ghost use Rattle.qrp_check.specs.Trim.{trimmed_trace};
-ghost use Rattle.qrp_report.specs.Lines.{fault_line, verdict_line};
-ghost use Rattle.qrp_report.specs.Refusals.{fault_status};
+ghost use Rattle.qrp_report.specs.Lines.{verdict_line};
 ghost use Rattle.qrp_report.specs.Results.{IsFormulaRead, IsTrimmed};
 ghost use Rattle.qrp_rules.specs.declared.rules.Rules.{Rules};
 ghost use Rattle.qrp_cli.specs.declared.job.Job.TheVariants.{Check, Format};
-ghost use Rattle.qrp_cli.specs.Output.{Report, IsOutput, IsSent, IsReported, IsReportedTo};
+ghost use Rattle.qrp_cli.specs.Output.{IsOutput};
 ghost use Rattle.qrp_cli.specs.Output.{check_report, trim_report, trimmed_result, format_report};
 ghost use Rattle.qrp_cli.specs.Output.{PrintsVerdict};
+ghost use Rattle.qrp_program.specs.Output.{Report, IsSent, IsReported, IsReportedTo};
 
 use crate::job::Job;
 use qbf_core::Formula;
-use qbf_text::{Sink, SinkFault, Source};
+use qbf_text::{Sink, Source};
 use qdimacs::{read_formula, write_formula};
 use qrp::{CompactTrace, write_steps_at};
 use qrp_check::{Fault, Rules, Verified, find_proof, find_truth};
-use qrp_report::{Refusal, put_refusal, put_verdict};
+use qrp_program::{Status, finish_sent, send_fault};
+use qrp_report::put_verdict;
 use std::alloc::Global;
-
-/// The status of the program: 0 done, 1 the proof is refused, 2 a text is refused, 3 a device
-/// failed, 4 an allocation failed.
-pub type Status = u8;
-
-/// The status if a device failed.
-const DEVICE_FAILED: Status = 3;
-
-/// Finishes a sink if the text that was to go out to it did, and returns the status.
-pub fn finish_sent<S: Sink>(sink: &mut S, sent: Result<(), SinkFault>, status: Status) -> Status
-    ensures { (before : S) (text : List ℕ)
-        → IsPut S.written S.failures S.failed_last before sink.old text sent
-        → IsSent S.Sink before sink.new text status 3 result }
-{
-    match sent {
-        Ok(()) => match sink.finish() {
-            Ok(()) => status,
-            Err(_) => DEVICE_FAILED,
-        },
-        Err(_) => DEVICE_FAILED,
-    }
-}
 
 /// Sends the canonical text of a formula.
 fn send_formula<S: Sink>(sink: &mut S, formula: &Formula) -> Status
@@ -57,16 +35,6 @@ fn send_formula<S: Sink>(sink: &mut S, formula: &Formula) -> Status
 {
     let sent = write_formula(formula, sink);
     finish_sent(sink, sent, 0)
-}
-
-/// Sends the line for a fault.
-pub fn send_fault<S: Sink>(sink: &mut S, fault: &Fault) -> Status
-    ensures { IsSent S.Sink sink.old sink.new (fault_line fault.now)
-        (fault_status fault.now) 3 result }
-{
-    let refusal = Refusal::of(fault);
-    let sent = put_refusal(sink, &refusal);
-    finish_sent(sink, sent, refusal.status())
 }
 
 /// Sends the line of a verdict.

@@ -1,18 +1,14 @@
 //! The arguments of the command line.
 
-ghost use Rattle.std.specs.Prelude.{◌≡◌, map, IsTrue, IfSome, IfNone, ◌↔◌, ◌<◌, length};
+ghost use Rattle.std.specs.Prelude.{map, IfSome, IfNone, ◌<◌, length};
 ghost use Rattle.std.specs.String.{string_bytes};
-ghost use Rattle.qrp_cli.specs.Words.{Request, IsRow, Texts, HasTexts};
+ghost use Rattle.qrp_cli.specs.Words.{IsRow, Texts, HasTexts};
+ghost use Rattle.qrp_cli.specs.declared.job.Job.{Job};
+ghost use Rattle.qrp_program.specs.Words.{Request};
 
 use crate::job::Job;
 use qrp_check::Rules;
-
-/// Whether the word is this one.
-pub fn is_word(word: &String, name: &str) -> bool
-    ensures { IsTrue result ↔ (string_bytes word.now ≡ name.now) }
-{
-    word.as_str() == name
-}
+use qrp_program::is_word;
 
 /// The rules and the places of a formula and a trace, if the arguments are this command on the two.
 fn texts(words: &[String], command: &str) -> Option<(Rules, usize, usize)>
@@ -43,7 +39,7 @@ pub fn request(words: &[String]) -> Option<(Job, usize, Option<usize>)>
     ensures within { IfSome result
         (λ r. (r.1 < length words.now) × IfSome r.2 (λ t. t < length words.now)) }
     ensures none { IfNone result
-        ((r : Request) → IsRow (map (λ w. string_bytes w) words.now) r → ⊥) }
+        ((r : Request Job) → IsRow (map (λ w. string_bytes w) words.now) r → ⊥) }
 {
     if let Some((rules, formula, trace)) = texts(words, "check") {
         return Some((Job::Check(rules), formula, Some(trace)));

@@ -3,7 +3,7 @@
 //! - Owns: `main`.
 //! - Offers: the program.
 //! - Proved: nothing of its own: what it calls is proved.
-//! - Read first: `main`, and then `program` of `qrp_cli`.
+//! - Read first: `main`, and then `program` of `qrp_program`.
 //! - Tested only: over the built program: rows and damaged texts, whole and byte by byte, real
 //!   traces, failed allocations, files and devices, large inputs.
 //! - Trusted: std's files, arguments and streams, as `main` uses them.
@@ -12,8 +12,9 @@
 
 use buffered_sink::Buffered;
 use qbf_text::ToWrite;
-use qrp_cli::program;
-pub use qrp_cli::{Job, Start, Status, request, run};
+pub use qrp_cli::{Job, request, run};
+use qrp_program::program;
+pub use qrp_program::{Start, Status};
 use qrp_system::{SystemFiles, given_words};
 use std::process::ExitCode;
 
@@ -22,5 +23,5 @@ fn main(rt: HostRuntime) -> ExitCode {
     let mut err = ToWrite::new(rt.stderr());
     let files = SystemFiles::new(&rt);
     let words = given_words(&rt);
-    ExitCode::from(program(rt.alloc(), &files, words, &mut out, &mut err))
+    ExitCode::from(program::<Job, _, _, _>(rt.alloc(), &files, words, &mut out, &mut err))
 }

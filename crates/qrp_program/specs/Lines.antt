@@ -1,8 +1,8 @@
 -- The lines with which the program ends before its job begins, and the statuses.
 use Rattle.std.specs.Prelude.{ℕ, List, codes}
 use Rattle.qrp_report.specs.Lines.{line}
-use Rattle.qrp_cli.specs.declared.start.Start.{Start}
-use Rattle.qrp_cli.specs.declared.start.Start.TheVariants.{Usage, NoFormula, NoTrace, NoMemory}
+use Rattle.qrp_program.specs.declared.start.Start.{Start}
+use Rattle.qrp_program.specs.declared.start.Start.TheVariants.{Usage, NoFormula, NoTrace, NoMemory}
 
 -- the line with which the program ends before its job begins
 abbrev pub start_line : Start → List ℕ

@@ -2,23 +2,23 @@
 
 ghost use Rattle.std.specs.Prelude.{◌≡◌, Some, None, Ok, Err, map, IfOk, IfErr};
 ghost use Rattle.std.specs.String.{string_bytes};
-ghost use Rattle.qrp_cli.specs.declared.job.Job.{Job};
-ghost use Rattle.qrp_cli.specs.declared.open_fault.OpenFault.{OpenFault};
-ghost use Rattle.qrp_cli.specs.Lines.{start_line, start_status};
-ghost use Rattle.qrp_cli.specs.Output.{Report, Errors, IsSent, IsReported, refusals};
-ghost use Rattle.qrp_cli.specs.Program.{start_without_file, start_report};
-ghost use Rattle.qrp_cli.specs.Program.{IsOnBoth, IsOnFormula, IsOnFiles, IsOnOpened, IsProgram};
+ghost use Rattle.qrp_program.specs.Lines.{start_line, start_status};
+ghost use Rattle.qrp_program.specs.Output.{Report, IsSent, IsReported};
+ghost use Rattle.qrp_program.specs.Program.{start_without_file, start_report};
+ghost use Rattle.qrp_program.specs.Program.{IsOnBoth, IsOnFormula, IsOnFiles, IsOnOpened, IsProgram};
+ghost use Rattle.qrp_program.specs.declared.open_fault.OpenFault.{OpenFault};
+ghost use Rattle.qrp_program.specs.declared.stream.Stream.TheVariants.{Errors};
 
-use crate::job::Job;
+use crate::jobs::Jobs;
 use crate::open::Open;
-use crate::running::{Status, run};
+use crate::sending::Status;
 use crate::start::Start;
-use crate::words::request;
+use crate::stream::Stream;
 use qbf_text::{Sink, SliceSource, Source, put_bytes};
 use std::alloc::Global;
 
 /// Ends before a job begins. The status stays whether or not the line went out.
-pub fn stop<S: Sink>(sink: &mut S, start: Start) -> Status
+fn stop<S: Sink>(sink: &mut S, start: Start) -> Status
     ensures { IsSent S.Sink sink.old sink.new (start_line start) (start_status start)
         (start_status start) result }
 {
@@ -28,14 +28,14 @@ pub fn stop<S: Sink>(sink: &mut S, start: Start) -> Status
     start.status()
 }
 
-/// Ends before a job begins. The line goes where the refusals of the job go.
-fn refuse<O: Sink, E: Sink>(job: Job, start: Start, out: &mut O, err: &mut E) -> Status
+/// Ends before a job begins. The line goes to this one of the streams.
+fn refuse<O: Sink, E: Sink>(stream: Stream, start: Start, out: &mut O, err: &mut E) -> Status
     ensures { IsReported O.Sink out.old out.new E.Sink err.old err.new
-        (start_report (refusals job) start) result }
+        (start_report stream start) result }
 {
-    match job {
-        Job::Check(_) => stop(out, start),
-        Job::Trim(_) | Job::Format => stop(err, start),
+    match stream {
+        Stream::Out => stop(out, start),
+        Stream::Errors => stop(err, start),
     }
 }
 
@@ -43,7 +43,7 @@ fn refuse<O: Sink, E: Sink>(job: Job, start: Start, out: &mut O, err: &mut E) ->
 ///
 /// # Errors
 /// How the program ends if it is not opened; `no_file` if it cannot be.
-pub fn open_file<F: Open>(files: &F, path: &str, no_file: Start) -> Result<F::File, Start>
+fn open_file<F: Open>(files: &F, path: &str, no_file: Start) -> Result<F::File, Start>
     ensures file { IfOk result (λ f. F.opens files.now path.now (Ok (F.File.remaining f))) }
     ensures failures { IfOk result (λ f. F.File.failures f ≡ 0) }
     ensures refused { IfErr result (λ start. (e : OpenFault)
@@ -59,13 +59,18 @@ pub fn open_file<F: Open>(files: &F, path: &str, no_file: Start) -> Result<F::Fi
 ///
 /// # Errors
 /// How the program ends if one of them is not opened.
-fn open_both<F: Open>(files: &F, formula: &str, trace: &str) -> Result<(F::File, F::File), Start>
-    ensures opened { IfOk result (λ f. (job : Job) (r : Report)
-        → IsOnBoth F.File.Source F.File.Source job f.0 f.1 r
-        → IsOnFiles F.File.Source (F.opens files.now) job formula.now (Some trace.now) r) }
-    ensures refused { IfErr result (λ start. (job : Job)
-        → IsOnFiles F.File.Source (F.opens files.now) job formula.now (Some trace.now)
-        (start_report (refusals job) start)) }
+fn open_both<J: Jobs, F: Open>(
+    job: J,
+    files: &F,
+    formula: &str,
+    trace: &str,
+) -> Result<(F::File, F::File), Start>
+    ensures opened { IfOk result (λ f. (r : Report)
+        → IsOnBoth J.Jobs F.File.Source F.File.Source job f.0 f.1 r
+        → IsOnFiles J.Jobs F.File.Source (F.opens files.now) job formula.now (Some trace.now) r) }
+    ensures refused { IfErr result (λ start.
+        IsOnFiles J.Jobs F.File.Source (F.opens files.now) job formula.now (Some trace.now)
+        (start_report (J.refusals job) start)) }
 {
     let formula = open_file(files, formula, Start::NoFormula)?;
     let trace = open_file(files, trace, Start::NoTrace)?;
@@ -76,13 +81,17 @@ fn open_both<F: Open>(files: &F, formula: &str, trace: &str) -> Result<(F::File,
 ///
 /// # Errors
 /// How the program ends if it is not opened.
-fn open_formula<'a, F: Open>(files: &F, path: &str) -> Result<(F::File, SliceSource<'a>), Start>
-    ensures opened { IfOk result (λ f. (job : Job) (r : Report)
-        → IsOnFormula F.File.Source f.0 r
-        → IsOnFiles F.File.Source (F.opens files.now) job path.now None r) }
-    ensures refused { IfErr result (λ start. (job : Job)
-        → IsOnFiles F.File.Source (F.opens files.now) job path.now None
-        (start_report (refusals job) start)) }
+fn open_formula<'a, J: Jobs, F: Open>(
+    job: J,
+    files: &F,
+    path: &str,
+) -> Result<(F::File, SliceSource<'a>), Start>
+    ensures opened { IfOk result (λ f. (r : Report)
+        → IsOnFormula J.Jobs F.File.Source job f.0 r
+        → IsOnFiles J.Jobs F.File.Source (F.opens files.now) job path.now None r) }
+    ensures refused { IfErr result (λ start.
+        IsOnFiles J.Jobs F.File.Source (F.opens files.now) job path.now None
+        (start_report (J.refusals job) start)) }
 {
     let file = open_file(files, path, Start::NoFormula)?;
     Ok((file, SliceSource::new(&[])))
@@ -90,39 +99,39 @@ fn open_formula<'a, F: Open>(files: &F, path: &str) -> Result<(F::File, SliceSou
 
 /// A job, and where it takes its memory from.
 #[derive(Clone, Copy)]
-struct Task {
+struct Task<J> {
     alloc: Global,
-    job: Job,
+    job: J,
 }
 
 /// Does a job on the opened files, or reports why they are not opened.
-fn run_opened<F: Source, T: Source, O: Sink, E: Sink>(
-    task: Task,
+fn run_opened<J: Jobs, F: Source, T: Source, O: Sink, E: Sink>(
+    task: Task<J>,
     opened: &mut Result<(F, T), Start>,
     out: &mut O,
     err: &mut E,
 ) -> Status
     ensures { (r : Report)
-        × IsOnOpened F.Source T.Source task.job opened.old opened.new r
+        × IsOnOpened J.Jobs F.Source T.Source task.job opened.old opened.new r
         × IsReported O.Sink out.old out.new E.Sink err.old err.new r result }
 {
     match opened {
-        Ok((formula, trace)) => run(task.alloc, task.job, formula, trace, out, err),
-        Err(start) => refuse(task.job, *start, out, err),
+        Ok((formula, trace)) => task.job.run(task.alloc, formula, trace, out, err),
+        Err(start) => refuse(task.job.refused_on(), *start, out, err),
     }
 }
 
-/// The whole program, but for where its arguments, its files and its sinks come from: does what the
+/// A whole program, but for where its arguments, its files and its sinks come from: does what the
 /// arguments ask for, over the files that they name, writes the report to `out` or `err`, and
 /// returns the status.
 ///
 /// If the arguments are not a command line of the usage, the line `USAGE` goes to `err` with status
 /// 5. A file that cannot be opened is reported in a line with status 3, and out of memory while it
-/// is opened in a line with status 4, where the refusals of the command go; the formula is opened
+/// is opened in a line with status 4, where the refusals of the job go; the formula is opened
 /// before the trace, and both before anything is read. If the arguments could not be read, the line
 /// for the reason goes to `err`, with its status. These statuses stay whether or not the line went
-/// out. Otherwise the report is that of `run`.
-pub fn program<F: Open, O: Sink, E: Sink>(
+/// out. Otherwise the report is that of the job.
+pub fn program<J: Jobs, F: Open, O: Sink, E: Sink>(
     alloc: Global,
     files: &F,
     words: Result<Vec<String>, Start>,
@@ -130,7 +139,7 @@ pub fn program<F: Open, O: Sink, E: Sink>(
     err: &mut E,
 ) -> Status
     ensures words { IfOk words (λ words. (r : Report)
-        × IsProgram F.File.Source (F.opens files.now) (map (λ w. string_bytes w) words.items) r
+        × IsProgram J.Jobs F.File.Source (F.opens files.now) (map (λ w. string_bytes w) words.items) r
         × IsReported O.Sink out.old out.new E.Sink err.old err.new r result) }
     ensures no_words { IfErr words (λ start. IsReported O.Sink out.old out.new E.Sink err.old
         err.new (start_report Errors start) result) }
@@ -140,15 +149,18 @@ pub fn program<F: Open, O: Sink, E: Sink>(
         Err(start) => return stop(err, start),
     };
     let texts = words.as_slice();
-    match request(texts) {
-        Some((job, formula, Some(trace))) => {
-            let mut opened = open_both(files, texts[formula].as_str(), texts[trace].as_str());
+    let Some((job, formula, trace)) = J::request(texts) else {
+        return stop(err, Start::Usage);
+    };
+    let formula = texts[formula].as_str();
+    match trace {
+        Some(trace) => {
+            let mut opened = open_both(job, files, formula, texts[trace].as_str());
             run_opened(Task { alloc, job }, &mut opened, out, err)
         }
-        Some((job, formula, None)) => {
-            let mut opened = open_formula(files, texts[formula].as_str());
+        None => {
+            let mut opened = open_formula(job, files, formula);
             run_opened(Task { alloc, job }, &mut opened, out, err)
         }
-        None => stop(err, Start::Usage),
     }
 }

@@ -1,7 +1,7 @@
 //! How files are opened.
 
 ghost use Rattle.std.specs.Prelude.{◌≡◌, ℕ, List, Option, Result, Ok, Err, IfOk, IfErr};
-ghost use Rattle.qrp_cli.specs.declared.open_fault.OpenFault.{OpenFault};
+ghost use Rattle.qrp_program.specs.declared.open_fault.OpenFault.{OpenFault};
 
 use crate::open_fault::OpenFault;
 use qbf_text::Source;

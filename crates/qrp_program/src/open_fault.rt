@@ -1,7 +1,7 @@
 //! Why a file is not opened.
 
 ghost use Rattle.std.specs.Prelude.{◌≡◌};
-ghost use Rattle.qrp_cli.specs.Program.{start_without_file};
+ghost use Rattle.qrp_program.specs.Program.{start_without_file};
 
 use crate::start::Start;
 

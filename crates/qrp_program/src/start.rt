@@ -1,7 +1,7 @@
 //! How the program ends before its job begins.
 
 ghost use Rattle.std.specs.Prelude.{◌≡◌};
-ghost use Rattle.qrp_cli.specs.Lines.{start_line, start_status};
+ghost use Rattle.qrp_program.specs.Lines.{start_line, start_status};
 
 /// How the program ends before its job begins.
 #[derive(Clone, Copy, Debug, PartialEq, Eq)]

@@ -1,1 +1,1 @@
-pub mod StrategyReport
+pub mod FirstWords

@@ -5,32 +5,27 @@ use Rattle.aiger.specs.Formats.{circuit_text}
 use Rattle.qbf_text.specs.declared.sink.Sink.{Ghosts}
 use Rattle.qrp_check.specs.Checked.{SourceCall}
 use Rattle.qrp_check.specs.declared.fault.CheckFault.TheVariants.{C5}
-use Rattle.qrp_check.specs.declared.verdict.Fault.{Fault}
 use Rattle.qrp_check.specs.declared.verdict.Fault.TheVariants as fault
-use Rattle.qrp_cli.specs.Output.{Errors, Report, success}
-use Rattle.qrp_report.specs.Lines.{fault_line, line}
-use Rattle.qrp_report.specs.Refusals.{fault_status}
-use Rattle.qrp_rules.specs.declared.rules.Rules.{Rules}
+use Rattle.qrp_program.specs.Output.{Report, refusal, success}
+use Rattle.qrp_program.specs.declared.stream.Stream.TheVariants.{Errors}
+use Rattle.qrp_report.specs.Lines.{line}
+use Rattle.qrp_strategy.specs.declared.task.Task.{Task}
 use Rattle.qrp_winner.specs.Strategies.{IsOfVerdict, IsOfWinner}
 use Rattle.qrp_winner.specs.declared.fault.StrategyFault.{StrategyFault}
 use Rattle.qrp_winner.specs.declared.fault.StrategyFault.TheVariants.{Check, NoCircuit, NoMemory}
 use Rattle.qrp_winner.specs.declared.strategy.Strategy.{Strategy}
 
--- a refusal of a text or of the proof, on the sink for errors
-abbrev pub refusal : Fault → Report
-refusal e = record { sink = Errors; text = fault_line e; status = fault_status e; failed = 3 }
-
 -- the text of the circuit, or why there is none; out of memory is reported as that of a check
 abbrev pub strategy_report : (binary : Bool) → Result Strategy StrategyFault → Report
 strategy_report binary (Ok s) = success (circuit_text binary s.circuit)
-strategy_report binary (Err (Check e)) = refusal e
-strategy_report binary (Err NoMemory) = refusal (fault.Check C5)
-strategy_report binary (Err NoCircuit) = record { sink = Errors; text = line (codes "NO CIRCUIT"); status = 4; failed = 3 }
+strategy_report binary (Err (Check e)) = refusal Errors e
+strategy_report binary (Err NoMemory) = refusal Errors (fault.Check C5)
+strategy_report binary (Err NoCircuit) = record { stream = Errors; text = line (codes "NO CIRCUIT"); status = 4; failed = 3 }
 
 -- the report on two texts
-abbrev pub IsOutput : Rules → (binary : Bool) → SourceCall → SourceCall → Report → Type 0
-IsOutput rules binary formula trace r =
-    (result : Result Strategy StrategyFault) × IsOfVerdict rules formula trace result × (r ≡ strategy_report binary result)
+abbrev pub IsOutput : Task → SourceCall → SourceCall → Report → Type 0
+IsOutput task formula trace r =
+    (result : Result Strategy StrategyFault) × IsOfVerdict task.rules formula trace result × (r ≡ strategy_report task.binary result)
 
 -- the text of a circuit went out to a sink, and the circuit is a strategy of the winner
 abbrev pub WritesWinner : {S : Type 0} → Ghosts S → S → S → (binary : Bool) → List ℕ → List ℕ → Type 0

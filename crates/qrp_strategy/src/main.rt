@@ -2,29 +2,29 @@
 //!
 //! - Owns: its command line and its reports.
 //! - Offers: the program.
-//! - Proved: `program` writes exactly the report for the files that the command line names to the
-//!   right sink, with its status, whatever opens the files; if `run` ends with status 0, the text is
-//!   that of a circuit by which the winner wins.
-//! - Read first: `run`, `program`, `request`.
+//! - Proved: `run` writes exactly the report for its files to the right sink, with its status; if it
+//!   ends with status 0, the text is that of a circuit by which the winner wins.
+//! - Read first: `run`, `request`, and then `program` of `qrp_program`.
 //! - Tested only: over the built program.
 //! - Trusted: std's files, arguments and streams, as `main` uses them.
 //! - On the map: the program qrp_strategy.
 #![tactic(auto)]
 
-mod answering;
 mod running;
+mod task;
 mod words;
 
-use answering::program;
 use buffered_sink::Buffered;
 use qbf_text::ToWrite;
+use qrp_program::program;
 use qrp_system::{SystemFiles, given_words};
 use std::process::ExitCode;
+use task::Task;
 
 fn main(rt: HostRuntime) -> ExitCode {
     let mut out = Buffered::new(ToWrite::new(rt.stdout()));
     let mut err = ToWrite::new(rt.stderr());
     let files = SystemFiles::new(&rt);
     let words = given_words(&rt);
-    ExitCode::from(program(rt.alloc(), &files, words, &mut out, &mut err))
+    ExitCode::from(program::<Task, _, _, _>(rt.alloc(), &files, words, &mut out, &mut err))
 }

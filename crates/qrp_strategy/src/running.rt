@@ -3,14 +3,15 @@
 ghost use Rattle.std.specs.Prelude.{◌≡◌, List, ℕ, Some, codes};
 ghost use Rattle.aiger.specs.Formats.{circuit_text};
 ghost use Rattle.qrp_check.specs.Checked.{call_of};
-ghost use Rattle.qrp_cli.specs.Output.{IsReported, IsSent, Report};
+ghost use Rattle.qrp_program.specs.Output.{IsReported, IsSent, Report};
 ghost use Rattle.qrp_report.specs.Lines.{line};
 ghost use Rattle.qrp_strategy.specs.Output.{IsOutput, WritesWinner, strategy_report};
 
+use crate::task::Task;
 use aiger::{Circuit, write_circuit};
 use qbf_text::{Sink, Source, put_bytes};
-use qrp_check::{CheckFault, Fault, Rules};
-use qrp_cli::{Status, finish_sent, send_fault};
+use qrp_check::{CheckFault, Fault};
+use qrp_program::{Status, finish_sent, send_fault};
 use qrp_winner::{Strategy, StrategyFault, find_strategy};
 use std::alloc::Global;
 
@@ -48,17 +49,6 @@ fn send_strategy<O: Sink, E: Sink>(
     }
 }
 
-/// What to do, and where memory is taken from.
-#[derive(Clone, Copy)]
-pub struct Task {
-    /// Where memory is taken from.
-    pub alloc: Global,
-    /// The rules by which the trace is checked.
-    pub rules: Rules,
-    /// Whether the circuit is to be written in AIGER's binary format.
-    pub binary: bool,
-}
-
 /// Reads a formula and a trace, and writes the circuit of the winner to `out`, or a refusal to
 /// `err`. The other sink gets nothing.
 ///
@@ -67,6 +57,7 @@ pub struct Task {
 /// out of memory in a line with status 4. If the sink of the report fails, in a write or in
 /// `finish`, the status is 3 and a beginning of the text went out.
 pub fn run<F: Source, T: Source, O: Sink, E: Sink>(
+    alloc: Global,
     task: Task,
     formula: &mut F,
     trace: &mut T,
@@ -74,13 +65,13 @@ pub fn run<F: Source, T: Source, O: Sink, E: Sink>(
     err: &mut E,
 ) -> Status
     ensures report { (r : Report)
-        × IsOutput task.rules task.binary (call_of F.Source formula.old formula.new)
+        × IsOutput task (call_of F.Source formula.old formula.new)
         (call_of T.Source trace.old trace.new) r
         × IsReported O.Sink out.old out.new E.Sink err.old err.new r result }
     ensures headline { (a b : List ℕ) → F.remaining formula.old ≡ Some a
         → T.remaining trace.old ≡ Some b → result ≡ 0
         → WritesWinner O.Sink out.old out.new task.binary a b }
 {
-    let found = find_strategy(task.alloc, formula, trace, task.rules);
+    let found = find_strategy(alloc, formula, trace, task.rules);
     send_strategy(out, err, task.binary, found)
 }

@@ -1,37 +1,22 @@
 //! The arguments of the command line.
 
-ghost use Rattle.std.specs.Prelude.{◌≡◌, ◌<◌, ◌+◌, ◌↔◌, ◌⊎◌, codes, map, IfSome, IfNone, IsTrue, length};
+ghost use Rattle.std.specs.Prelude.{◌≡◌, ◌<◌, ◌↔◌, ◌⊎◌, codes, map, IfSome, IfNone, IsTrue, length};
 ghost use Rattle.std.specs.String.{string_bytes};
-ghost use Rattle.qrp_strategy.specs.Words.{IsFlag, IsRow};
-ghost use Rattle.qrp_strategy.specs.declared.words.Command.{Command};
+ghost use Rattle.qrp_strategy.specs.Words.{IsFlag, IsRow, files_at};
+ghost use Rattle.qrp_strategy.specs.declared.task.Task.{Task};
+ghost use Rattle.qrp_program.specs.Words.{Request};
 
+use crate::task::Task;
 use qrp_check::Rules;
-use qrp_cli::is_word;
-
-/// What the program is asked for. Places are those of arguments, counted from 0.
-#[derive(Clone, Copy)]
-pub struct Command {
-    /// The rules by which the trace is checked.
-    pub rules: Rules,
-    /// Whether the circuit is to be written in AIGER's binary format.
-    pub binary: bool,
-    /// The place of the formula's file.
-    pub formula: usize,
-    /// The place of the trace's file.
-    pub trace: usize,
-}
+use qrp_program::is_word;
 
 /// What is asked for, if the files stand from this place on.
-fn asked(rules: Rules, binary: bool, formula: usize) -> Command
+fn asked(rules: Rules, binary: bool, formula: usize) -> (Task, usize, Option<usize>)
     requires { formula < 3 }
-    ensures { result ≡ record { rules = rules; binary = binary; formula = formula; trace = formula + 1 } }
+    ensures { ◌≡◌ {A = Request Task} (record { job = result.0; formula = result.1; trace = result.2 })
+        (files_at rules binary formula) }
 {
-    Command {
-        rules,
-        binary,
-        formula,
-        trace: formula + 1,
-    }
+    (Task { rules, binary }, formula, Some(formula + 1))
 }
 
 /// Whether the word is none of the flags.
@@ -56,14 +41,16 @@ fn are_both(first: &String, second: &String) -> bool
     is_word(first, "--binary") && is_word(second, "--qu")
 }
 
-/// What the arguments ask for, if they are a command line of the usage: a formula and a trace, and
-/// before them none of the flags `--qu` and `--binary`, one, or both in any order.
-pub fn request(words: &[String]) -> Option<Command>
-    ensures row { IfSome result (IsRow (map (λ w. string_bytes w) words.now)) }
+/// What the arguments ask for, and the places of the formula and the trace among them, counted from
+/// 0, if they are a command line of the usage: a formula and a trace, and before them none of the
+/// flags `--qu` and `--binary`, one, or both in any order.
+pub fn request(words: &[String]) -> Option<(Task, usize, Option<usize>)>
+    ensures row { IfSome result (λ r. IsRow (map (λ w. string_bytes w) words.now)
+        (record { job = r.0; formula = r.1; trace = r.2 })) }
     ensures within { IfSome result
-        (λ r. (r.formula < length words.now) × (r.trace < length words.now)) }
+        (λ r. (r.1 < length words.now) × IfSome r.2 (λ t. t < length words.now)) }
     ensures none { IfNone result
-        ((r : Command) → IsRow (map (λ w. string_bytes w) words.now) r → ⊥) }
+        ((r : Request Task) → IsRow (map (λ w. string_bytes w) words.now) r → ⊥) }
 {
     match words {
         [first, _] if is_file(first) => Some(asked(Rules::plain(), false, 0)),

@@ -3,9 +3,9 @@
 ghost use Rattle.std.specs.Prelude.{◌≡◌, ◌≢◌, ◌⊎◌, IfOk, IfErr, drop};
 ghost use Rattle.std.specs.declared.io.ErrorKind.TheVariants.{OutOfMemory};
 ghost use Rattle.std.specs.Vec.Iter.{into_iter_items};
-ghost use Rattle.qrp_cli.specs.declared.start.Start.TheVariants.{NoMemory, Usage};
+ghost use Rattle.qrp_program.specs.declared.start.Start.TheVariants.{NoMemory, Usage};
 
-use qrp_cli::Start;
+use qrp_program::Start;
 use std::alloc::Global;
 use std::env;
 use std::env::Args;

@@ -2,10 +2,10 @@
 
 ghost use Rattle.std.specs.Prelude.{◌≡◌, ◌≢◌, ℕ, ⊤, List, Option, Result, Ok, Err, IfOk, IfErr};
 ghost use Rattle.std.specs.declared.io.ErrorKind.TheVariants.{OutOfMemory};
-ghost use Rattle.qrp_cli.specs.declared.open_fault.OpenFault.TheVariants.{NoMemory, NoFile};
+ghost use Rattle.qrp_program.specs.declared.open_fault.OpenFault.TheVariants.{NoMemory, NoFile};
 
 use qbf_text::FromRead;
-use qrp_cli::{LIMIT, Open, OpenFault};
+use qrp_program::{LIMIT, Open, OpenFault};
 use std::fs;
 use std::io::ErrorKind;
 use std::rt::Files;

@@ -1,9 +1,9 @@
 use Rattle.std.proofs.Common.{inl, refl}
-use Rattle.qrp_cli.proofs.ProgramReport.{of_both, of_formula, on_files, on_formula}
-use Rattle.qrp_cli.specs.declared.start.Start.TheVariants.{Usage}
-use Rattle.qrp_cli.specs.Output.{Errors}
-use Rattle.qrp_cli.specs.Program.{start_report}
-use Rattle.qrp_cli.proofs.answering.program.Goals as goal
+use Rattle.qrp_program.proofs.ProgramReport.{of_both, of_formula, on_files, on_formula}
+use Rattle.qrp_program.specs.declared.start.Start.TheVariants.{Usage}
+use Rattle.qrp_program.specs.declared.stream.Stream.TheVariants.{Errors}
+use Rattle.qrp_program.specs.Program.{start_report}
+use Rattle.qrp_program.proofs.answering.program.Goals as goal
 
 pub returns-in-Some-default-default-Some-clause-words : goal.returns-in-Some-default-default-Some-clause-words
 returns-in-Some-default-default-Some-clause-words g c =
@@ -12,9 +12,9 @@ returns-in-Some-default-default-Some-clause-words g c =
     let done = c.run_opened.ensures in
     rw (c.in-Ok.is, ← c.as_slice-texts.ensures.value) (
       done.0,
-      of_both g.F.File.Source (g.F.Open.opens c.args.files.now) _ c.as_slice-texts.result.now _ q.job _ _ _ _ _ _ _ q.ensures.row q.ensures.within q.field-0-2-is
+      of_both g.J.Jobs g.F.File.Source (g.F.Open.opens c.args.files.now) _ c.as_slice-texts.result.now _ q.job _ _ _ _ _ _ _ q.ensures.row q.ensures.within q.field-0-2-is
           c.index-texts-formula.is c.as_str.ensures.value c.index-texts-trace.is c.as_str-in-Some-default-default-Some.ensures.value
-          (on_files g.F.File.Source (g.F.Open.opens c.args.files.now) c.as_str.result.now c.as_str-in-Some-default-default-Some.result.now q.job
+          (on_files g.J.Jobs g.F.File.Source (g.F.Open.opens c.args.files.now) c.as_str.result.now c.as_str-in-Some-default-default-Some.result.now q.job
           files.result _ done.0 files.ensures.opened files.ensures.refused done.1),
       done.2,
     )
@@ -26,10 +26,10 @@ returns-in-Some-default-default-None-clause-words g c =
     let done = c.run_opened-in-Some-default-default-None.ensures in
     rw (c.in-Ok.is, ← c.as_slice-texts.ensures.value) (
       done.0,
-      of_formula g.F.File.Source (g.F.Open.opens c.args.files.now) _ c.as_slice-texts.result.now _ q.job _ _ _ _ q.ensures.row q.ensures.within q.field-0-2-is
+      of_formula g.J.Jobs g.F.File.Source (g.F.Open.opens c.args.files.now) _ c.as_slice-texts.result.now _ q.job _ _ _ _ q.ensures.row q.ensures.within q.field-0-2-is
           c.index-texts-formula-in-Some-default-default-None.is c.as_str-in-Some-default-default-None.ensures.value
-          (λ formats. on_formula g.F.File.Source _ _ (g.F.Open.opens c.args.files.now) c.as_str-in-Some-default-default-None.result.now q.job
-          files.result _ done.0 formats files.ensures.opened files.ensures.refused done.1),
+          (on_formula g.J.Jobs g.F.File.Source _ (g.F.Open.opens c.args.files.now) c.as_str-in-Some-default-default-None.result.now q.job
+          files.result _ done.0 files.ensures.opened files.ensures.refused done.1),
       done.2,
     )
 

@@ -1,7 +1,6 @@
 use Rattle.std.proofs.Common.{refl}
-use Rattle.qrp_cli.specs.Output.{refusals}
-use Rattle.qrp_cli.specs.Program.{start_report}
-use Rattle.qrp_cli.proofs.answering.run_opened.Goals as goal
+use Rattle.qrp_program.specs.Program.{start_report}
+use Rattle.qrp_program.proofs.answering.run_opened.Goals as goal
 
 pub returns-in-Err : goal.returns-in-Err
-returns-in-Err g c = (start_report (refusals c.args.task.job) c.in-Err.start, rw c.in-Err.is refl, c.refuse.ensures)
+returns-in-Err g c = (start_report (g.J.refusals c.args.task.job) c.in-Err.start, rw c.in-Err.is refl, c.refuse.ensures)

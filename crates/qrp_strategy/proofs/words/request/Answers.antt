@@ -1,36 +1,32 @@
-use Rattle.std.proofs.Common.{ℕ, Bool, true, false, ap, ◌≡◌, ◌∙◌, inl, inr, codes, string_bytes}
-use Rattle.qrp_cli.specs.Words.{any_pivot}
-use Rattle.qrp_rules.specs.declared.rules.Rules.{Rules}
-use Rattle.qrp_strategy.specs.declared.words.Command.{Command}
-use Rattle.qrp_strategy.proofs.StrategyReport.{file_first, flag_first, flags_first}
+use Rattle.std.proofs.Common.{true, false, ap, ◌≡◌, ◌∙◌, inl, inr, codes, string_bytes}
+use Rattle.qrp_program.specs.Words.{Request, any_pivot}
+use Rattle.qrp_strategy.specs.Words.{files_at}
+use Rattle.qrp_strategy.specs.declared.task.Task.{Task}
+use Rattle.qrp_strategy.proofs.FirstWords.{file_first, flag_first, flags_first}
 use Rattle.qrp_strategy.proofs.words.request.Goals as goal
-
--- what is asked for, by its rules
-abbrev asked : Bool → ℕ → ℕ → Rules → Command
-asked binary formula trace rules = record { rules = rules; binary = binary; formula = formula; trace = trace }
 
 pub returns-in-len2-clause-row : goal.returns-in-len2-clause-row
 returns-in-len2-clause-row c =
     let first = c.first-item in
     let two = file_first (λ w. string_bytes w) c.args.words.now first.result c.in-len2.len_at_least c.in-len2.len_below first.is in
-    (string_bytes first.result, two.0, inl (two.1, c.is_file.ensures.0 c.if-is_file.true, c.asked.ensures ∙ ap (asked false 0 1) c.plain.ensures))
+    (string_bytes first.result, two.0, inl (two.1, c.is_file.ensures.0 c.if-is_file.true, c.asked.ensures ∙ ap (λ r. files_at r false 0) c.plain.ensures))
 
 pub returns-in-len3-clause-row : goal.returns-in-len3-clause-row
 returns-in-len3-clause-row c =
     let three = flag_first (λ w. string_bytes w) c.args.words.now c.flag-item.result (codes "--qu") c.in-len3.len_at_least c.in-len3.len_below
     c.flag-item.is (c.is_word.ensures.0 c.if-is_word.true) in
-    (three.0, three.1, inr (inl (three.2, c.asked-in-len3.ensures ∙ ap (asked false 1 2) c.any_pivot.ensures)))
+    (three.0, three.1, inr (inl (three.2, c.asked-in-len3.ensures ∙ ap (λ r. files_at r false 1) c.any_pivot.ensures)))
 
 pub returns-in-len3-2-clause-row : goal.returns-in-len3-2-clause-row
 returns-in-len3-2-clause-row c =
     let flag = c.flag-item-then-words-lt4 in
     let three = flag_first (λ w. string_bytes w) c.args.words.now flag.result (codes "--binary") c.in-len3.len_at_least c.in-len3.len_below
     flag.is (c.is_word-then-words-lt4.ensures.0 c.if-is_word-2.true) in
-    (three.0, three.1, inr (inr (inl (three.2, c.asked-in-len3-2.ensures ∙ ap (asked true 1 2) c.plain-in-len3-2.ensures))))
+    (three.0, three.1, inr (inr (inl (three.2, c.asked-in-len3-2.ensures ∙ ap (λ r. files_at r true 1) c.plain-in-len3-2.ensures))))
 
 pub returns-in-len4-clause-row : goal.returns-in-len4-clause-row
 returns-in-len4-clause-row c =
-    let is : c.asked-in-len4.result ≡ asked true 2 3 any_pivot = c.asked-in-len4.ensures ∙ ap (asked true 2 3) c.any_pivot-in-len4.ensures in
+    let is : ◌≡◌ {A = Request Task} _ (files_at any_pivot true 2) = c.asked-in-len4.ensures ∙ ap (λ r. files_at r true 2) c.any_pivot-in-len4.ensures in
     elim (c.are_both.ensures.0 c.if-are_both.true) [
       | inl (qu, binary) ↦
           let four = flags_first (λ w. string_bytes w) c.args.words.now c.first-item-then-words-lt5.result c.second-item.result (codes "--qu") (codes "--binary")

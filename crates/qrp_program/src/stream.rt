@@ -1,0 +1,10 @@
+//! The two streams of a program.
+
+/// A stream that a program reports on.
+#[derive(Clone, Copy, Debug, PartialEq, Eq)]
+pub enum Stream {
+    /// The one for what was asked for.
+    Out,
+    /// The one for errors.
+    Errors,
+}
