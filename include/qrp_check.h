@@ -15,8 +15,8 @@
  * memset. Link with -lqrp, or with libqrp.a; nothing else is needed. The manual page is qrp_check(3).
  *
  * What every caller must do; the library checks none of it:
- *   - No pointer is NULL, but for that of a text, a list or a buffer whose length or room is 0: this one may be NULL, or any address. GCC
- *     and Clang warn of another NULL that they see (-Wnonnull), and -fsanitize=undefined finds each at run time.
+ *   - No pointer is NULL, but for that of a text, a list or a buffer whose length or room is 0, which may be NULL or any address, and that
+ *     of qrp_proof_free. GCC and Clang warn of another NULL that they see (-Wnonnull), and -fsanitize=undefined finds each at run time.
  *   - A text or a list has the length that is given, and nothing writes to it during the call. A list of numbers is aligned as its
  *     numbers are. Texts may have any alignment, and need not be NUL-terminated. Texts and lists may overlap each
  *     other, and stay the caller's.
@@ -203,8 +203,8 @@ size_t qrp_proof_write_trace(struct qrp_proof *proof, bool sat, char *buffer, si
 size_t qrp_proof_write_trimmed(struct qrp_proof *proof, bool sat, bool any_pivot, char *buffer, size_t room, struct qrp_verdict *out)
     QRP_NONNULL(1) QRP_NONNULL(6);
 
-/* Gives back what the struct holds; it holds nothing then. It may be called again. */
-void qrp_proof_free(struct qrp_proof *proof) QRP_NONNULL(1);
+/* Gives back what the struct holds; it holds nothing then. It may be called again. For NULL it does nothing. */
+void qrp_proof_free(struct qrp_proof *proof);
 
 #ifdef __cplusplus
 }

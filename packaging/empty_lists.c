@@ -1,6 +1,6 @@
 /* The calls of include/qrp_check.h that take texts, lists or buffers. A caller in C++ has NULL for an empty one, and what is proved starts from
-   addresses: so each call puts one in place of NULL, if the length is 0, and passes all else on as it is. What is passed on to has the name
-   of the call with `lent` in it; packaging/build-library gives it that name. */
+   addresses: so each call puts one in place of NULL, if the length is 0, and passes all else on as it is. As free(3), qrp_proof_free does
+   nothing for NULL. What is passed on to has the name of the call with `lent` in it; packaging/build-library gives it that name. */
 #include "qrp_check.h"
 
 /* An address for empty texts, lists and buffers, aligned as each of them. Nothing reads or writes it. */
@@ -22,6 +22,7 @@ int32_t qrp_lent_proof_step(struct qrp_proof *, uint64_t, const int32_t *, size_
 size_t qrp_lent_proof_write_formula(struct qrp_proof *, char *, size_t, struct qrp_verdict *);
 size_t qrp_lent_proof_write_trace(struct qrp_proof *, bool, char *, size_t, struct qrp_verdict *);
 size_t qrp_lent_proof_write_trimmed(struct qrp_proof *, bool, bool, char *, size_t, struct qrp_verdict *);
+void qrp_lent_proof_free(struct qrp_proof *);
 
 int32_t qrp_verify(const void *formula, size_t formula_length, const void *trace, size_t trace_length, bool any_pivot,
                    struct qrp_verdict *out) {
@@ -85,4 +86,9 @@ size_t qrp_proof_write_trace(struct qrp_proof *proof, bool sat, char *buffer, si
 
 size_t qrp_proof_write_trimmed(struct qrp_proof *proof, bool sat, bool any_pivot, char *buffer, size_t room, struct qrp_verdict *out) {
     return qrp_lent_proof_write_trimmed(proof, sat, any_pivot, LENT(buffer, room), room, out);
+}
+
+void qrp_proof_free(struct qrp_proof *proof) {
+    if (proof != NULL)
+        qrp_lent_proof_free(proof);
 }

@@ -51,6 +51,8 @@ int main(void) {
     settle(qrp_proof_write_trimmed(&proof, false, false, NULL, 0, &by_null) == strlen("p qrp 0 1\n1 0 0\nr unsat\n")
                && by_null.letter == 'V', "the buffer of qrp_proof_write_trimmed");
     qrp_proof_free(&proof);
+    qrp_proof_free(NULL);
+    settle(qrp_proof_clause(&proof, NULL, 0) == QRP_NO_PROOF, "no proof to give back");
     printf("empty: %d passed, %d failed\n", passed, failed);
     return failed != 0;
 }
