@@ -5,6 +5,9 @@ A literal is an even number for a variable and the next odd one for its negation
 """
 
 import re
+from collections.abc import Sequence
+from itertools import repeat
+from operator import gt
 from typing import NamedTuple, Optional
 
 from qrptools.command import Ends, counted, finding
@@ -12,6 +15,7 @@ from qrptools.command import Ends, counted, finding
 HEADER = re.compile(rb"(aag|aig)((?: [0-9]{1,20}){5,9})")
 KINDS = {"i": "input", "l": "latch", "o": "output", "b": "bad state", "c": "constraint", "j": "justice property", "f": "fairness constraint"}
 GREATEST = 2**30  # variables of a circuit
+DIGITS = 10  # of a number
 
 
 class Latch(NamedTuple):
@@ -60,6 +64,20 @@ class Circuit:
                 stack += below
         return found
 
+    def is_ordered(self) -> bool:
+        """Whether each gate has a greater literal than its inputs, and than the gate before it."""
+        own = list(self.gates)
+        return all(gate > one and gate > other for gate, (one, other) in self.gates.items()) and all(map(gt, own[1:], own))
+
+    def needed(self, roots: list[int]) -> list[int]:
+        """The gates that these literals depend on in their order, each of which comes after its inputs."""
+        marks = {root & ~1 for root in roots}
+        for gate, (one, other) in reversed(self.gates.items()):
+            if gate in marks:
+                marks.add(one & ~1)
+                marks.add(other & ~1)
+        return [gate for gate in self.gates if gate in marks]
+
 
 class Reader:
     """Reads a file of this name, of these bytes. Each fault ends the command with a line that says where it is."""
@@ -90,7 +108,7 @@ class Reader:
         if line is None:
             raise self.refuse(f"the file ends before {what}")
         words = line.split(b" ")
-        if not least <= len(words) <= most or not all(word.isdigit() and len(word) < 11 for word in words):
+        if not least <= len(words) <= most or not all(word.isdigit() and len(word) <= DIGITS for word in words):
             wanted = f"{least} to {most} numbers" if least < most else counted(least, "number")
             raise self.refuse(f"{what} is wanted, {wanted}")
         return list(map(int, words))
@@ -167,10 +185,15 @@ class Reader:
                 self.circuit.passed_over.append(counted(self.counts[letter], KINDS[kind]).replace("propertys", "properties"))
 
     def read_gates(self) -> None:
+        """Reads the gates, all at once if nothing is wrong with them, else one by one up to the fault."""
+        begun = self.place, self.line
+        if self.are_taken(self.binary_gates() if self.is_binary else self.ascii_gates()):
+            return
+        self.place, self.line = begun
         for place in range(self.counts["A"]):
             what = f"gate {place}"
             if self.is_binary:
-                literal = self.define(2 * (self.counts["I"] + self.counts["L"] + place + 1), what)
+                literal = self.define(self.first_gate() + 2 * place, what)
                 one = literal - self.difference(what)
                 other = one - self.difference(what)
                 if not 0 <= other <= one < literal:
@@ -179,6 +202,65 @@ class Reader:
                 literal, one, other = self.numbers(what, 3, 3)
                 self.define(literal, what)
             self.circuit.gates[literal] = (self.used(one), self.used(other))
+
+    def first_gate(self) -> int:
+        """The literal of the first gate in the binary form."""
+        return 2 * (self.counts["I"] + self.counts["L"] + 1)
+
+    def are_taken(self, columns: "Optional[tuple[Sequence[int], list[int], list[int]]]") -> bool:
+        """Takes the gates, of the columns of their literals and inputs, unless something is wrong with them."""
+        if columns is None:
+            return False
+        own, ones, others = columns
+        gates = dict(zip(own, zip(ones, others)))
+        if not gates:
+            return True
+        most = max(max(own), max(ones), max(others))
+        is_right = most <= 2 * self.greatest + 1 and min(own) > 1 and not any(map((1).__and__, own))
+        if not is_right or len(gates) < len(own) or not self.defined.keys().isdisjoint(gates):
+            return False
+        self.circuit.gates = gates
+        return True
+
+    def ascii_gates(self) -> "Optional[tuple[Sequence[int], list[int], list[int]]]":
+        """The columns of the gates in the ASCII form; None if a line has not three numbers with single blanks."""
+        count, end = self.counts["A"], self.place
+        lines = self.data[end:].split(b"\n", count)[:count]
+        text = b" ".join(lines)
+        words = text.decode(errors="replace").split(" ")
+        if len(lines) < count or set(map(bytes.count, lines, repeat(b" "))) - {2} or text.translate(None, b"0123456789 ") or "" in words:
+            return None
+        if max(map(len, words), default=0) > DIGITS:
+            return None
+        numbers = list(map(int, words))
+        self.place, self.line = end + len(text) + 1, self.line + count
+        return numbers[0::3], numbers[1::3], numbers[2::3]
+
+    def binary_gates(self) -> "Optional[tuple[Sequence[int], list[int], list[int]]]":
+        """The columns of the gates in the binary form; None if the inputs of a gate are not in order, or the file ends before them."""
+        own = range(self.first_gate(), self.first_gate() + 2 * self.counts["A"], 2)
+        data, at, ones, others = self.data, self.place, [], []
+        if len(data) - at < 2 * len(own):
+            return None
+        try:
+            for literal in own:
+                below = data[at]
+                at += 1
+                if below > 127:
+                    below, at = longer(data, below, at)
+                one = literal - below
+                below = data[at]
+                at += 1
+                if below > 127:
+                    below, at = longer(data, below, at)
+                ones.append(one)
+                others.append(one - below)
+        except IndexError:
+            return None
+        if not all(map(gt, own, ones)) or min(others, default=0) < 0:
+            return None
+        self.place, self.line = at, 0
+        return own, ones, others
 
     def difference(self, what: str) -> int:
         """A number of the binary form: seven bits in each byte, the lowest first, and a high bit in all but the last one."""
@@ -214,11 +296,26 @@ class Reader:
         """Ends the command if a literal is used that has no meaning, or if a gate depends on itself."""
         circuit, self.line = self.circuit, 0
         used = [*circuit.outputs, *circuit.bads, *circuit.constraints, *(latch.next for latch in circuit.latches)]
-        for literal in (*used, *(literal for inputs in circuit.gates.values() for literal in inputs)):
-            if literal > 1 and literal & ~1 not in self.defined:
-                raise finding(f"{self.path}: the literal {literal} is used, and neither an input nor a latch nor a gate")
-        if circuit.order([*used, *circuit.gates]) is None:
+        own = set(self.defined)
+        if len(own | circuit.gates.keys()) < self.greatest:
+            for literal in (*used, *(literal for inputs in circuit.gates.values() for literal in inputs)):
+                if literal > 1 and literal & ~1 not in own and literal & ~1 not in circuit.gates:
+                    raise finding(f"{self.path}: the literal {literal} is used, and neither an input nor a latch nor a gate")
+        if not circuit.is_ordered() and circuit.order([*used, *circuit.gates]) is None:
             raise finding(f"{self.path}: a gate depends on itself")
+
+
+def longer(data: bytes, byte: int, at: int) -> tuple[int, int]:
+    """A number of the binary form of two bytes or more, after its first byte, which stands before this place; and the place after it."""
+    number, shift = byte & 127, 7
+    while byte > 127:
+        if shift >= 5 * 7:
+            raise IndexError
+        byte = data[at]
+        at += 1
+        number |= (byte & 127) << shift
+        shift += 7
+    return number, at
 
 
 def read_circuit(path: str, data: bytes) -> Circuit:

@@ -2,6 +2,10 @@
 
 A gate is written out in the place where it is used, unless it is used more than once, or the expression would have more than LARGEST literals:
 then it gets a name. The negation of a conjunction is written as a disjunction. What follows from the other terms of a conjunction is left out.
+
+The gates are looked at once, in their order, and only their sizes are kept. The terms of an expression are made if something may follow in it:
+if a literal of a conjunction stands once more in it, or in the gates with names of which it has a literal. That is looked at when a gate gets a
+name, and before that if an expression becomes too large. Else an expression is written straight from its gates.
 """
 
 from collections import Counter
@@ -87,30 +91,156 @@ def given(term: Term, known: set[int]) -> Term:
     return joined((part for new in left if new != int(term.is_and) for part in parts(new, term.is_and)), term.is_and)
 
 
+class Words(dict[int, str]):
+    """How literals are written in a style."""
+
+    def __init__(self, style: Style) -> None:
+        super().__init__(enumerate(style.constants))
+        self.style = style
+
+    def __missing__(self, literal: int) -> str:
+        self[literal] = word = (self.style.signs[0] if literal & 1 else "") + self.style.name(literal & ~1)
+        return word
+
+
+# What an expression has: whether it is a conjunction, which literals are terms of it, and the variables of all its literals, those of the
+# terms last. One that is a literal is a conjunction.
+Look = tuple[bool, list[int], list[int]]
+
+
+def look_of(term: Term) -> Look:
+    if not isinstance(term, Node):
+        return True, [term], [term & ~1]
+    own = [part for part in term.terms if not isinstance(part, Node)]
+    rest = [literal & ~1 for part in term.terms if isinstance(part, Node) for literal in literals(part)]
+    return term.is_and, own, rest + [literal & ~1 for literal in own]
+
+
 class Expressions:
     """The expressions of the outputs of a strategy, and of the gates with names."""
 
     def __init__(self, strategy: Strategy) -> None:
-        self.strategy = strategy
-        used = [*strategy.outputs.values(), *(literal for both in strategy.gates.values() for literal in both)]
-        self.make(Counter(literal & ~1 for literal in used))
-        self.make(Counter(literal & ~1 for term in self.written() for literal in literals(term)))
+        self.strategy, self.gates = strategy, strategy.gates
+        self.nodes: dict[int, Term] = {}  # the expressions in which something follows
+        self.named: dict[int, Look] = {}  # gates with names
+        self.looked: dict[int, Look] = {}  # at other gates
+        self.sizes: dict[int, int] = {}  # how many literals the expression of each other gate has
+        self.make()
+        self.make_again()
 
-    def make(self, uses: "Counter[int]") -> None:
-        """Makes the expressions, if the gates are used so often."""
-        self.nodes: dict[int, Term] = {}  # what each gate is
-        self.named: set[int] = set()
-        for gate, both in self.strategy.gates.items():
-            self.nodes[gate] = self.conjunction(*both)
-            if uses[gate] > 1 and isinstance(self.nodes[gate], Node):
-                self.named.add(gate)
+    def make(self) -> None:
+        """Finds the gates that have names, if gates are used as often as in the circuit, and the expressions in which something follows."""
+        self.uses = Counter([literal & ~1 for both in self.gates.values() for literal in both])
+        self.uses.update(literal & ~1 for literal in self.strategy.outputs.values())
+        sizes, size_of, uses = self.sizes, self.sizes.get, self.uses
+        for gate, (one, other) in self.gates.items():
+            whole = size_of(one & ~1, 1) + size_of(other & ~1, 1)
+            sizes[gate] = whole if whole <= LARGEST else self.cut(one & ~1, other & ~1)
+            if uses[gate] > 1:
+                self.give_name(gate)
+        self.reach()
 
-    def conjunction(self, *both: int) -> Term:
-        """The conjunction of two literals. The larger of their gates get names if it is too large."""
-        while sum(size(self.term(literal)) for literal in both) > LARGEST:
-            self.named.add(max(both, key=lambda literal: size(self.term(literal))) & ~1)
-        terms = list(dict.fromkeys(term for literal in both for term in parts(self.term(literal))))
-        return self.simplified(terms)
+    def make_again(self) -> None:
+        """The same once more, if gates are used as often as they are written: only of gates of which this changes something."""
+        before, self.uses = self.uses, self.written
+        changed: set[int] = {gate for gate in self.named if before[gate] > 1 and self.uses[gate] == 1}
+        if not changed:
+            return
+        for gate, (one, other) in self.gates.items():
+            if one & ~1 in changed or other & ~1 in changed or gate in changed:
+                found = self.named.get(gate)
+                self.forget(gate)
+                for below in one & ~1, other & ~1:
+                    if below in self.named and self.uses[below] < 2:
+                        self.forget(below)
+                        self.look(below)
+                self.sizes[gate] = self.cut(one & ~1, other & ~1)
+                if self.uses[gate] > 1:
+                    self.give_name(gate)
+                if found is None or self.named.get(gate) != found:
+                    changed.add(gate)
+        self.reach()
+
+    def forget(self, gate: int) -> None:
+        """Lets a gate be as if nothing were known of it, but for its size."""
+        found = self.named.pop(gate, None)
+        if found:
+            self.sizes[gate] = len(found[2])
+        self.looked.pop(gate, None)
+        self.nodes.pop(gate, None)
+
+    def cut(self, one: int, other: int) -> int:
+        """The size of the conjunction of two gates, after the larger got names if it is too large."""
+        sizes, size_of = self.sizes, self.sizes.get
+        for gate in one, other:
+            if gate in sizes:
+                self.look(gate)
+        while size_of(one, 1) + size_of(other, 1) > LARGEST:
+            self.give_name(one if size_of(one, 1) >= size_of(other, 1) else other)
+        return size_of(one, 1) + size_of(other, 1)
+
+    def give_name(self, gate: int) -> None:
+        """Gives a gate a name, unless it is a literal."""
+        found = self.look(gate)
+        if len(found[2]) > 1:
+            self.named[gate] = found
+            del self.sizes[gate], self.looked[gate]
+
+    def look(self, gate: int) -> Look:
+        """What the expression of a gate without a name has, and so its size. Its terms are made if something may follow in it."""
+        found = self.looked.get(gate)
+        if not found:
+            self.looked[gate] = found = self.look_anew(gate)
+            self.sizes[gate] = len(found[2])
+        return found
+
+    def look_anew(self, gate: int) -> Look:
+        terms: list[int] = []
+        nested: list[int] = []
+        gates, sizes, looked, stack = self.gates, self.sizes, self.looked, [gate]
+        while stack:
+            for literal in gates[stack.pop()]:
+                below = literal & ~1
+                if below not in sizes:
+                    terms.append(literal)
+                elif literal & 1 or below in looked:
+                    is_and, own, variables = looked.get(below) or self.look(below)
+                    if is_and == bool(literal & 1) and len(variables) > 1:
+                        nested += variables
+                        continue
+                    terms += [part ^ literal & 1 for part in own]
+                    nested += variables[: len(variables) - len(own)]
+                else:
+                    stack.append(below)
+        if terms and self.may_follow(terms, nested):
+            return look_of(self.simplify(gate))
+        return True, terms, nested + [literal & ~1 for literal in terms]
+
+    def may_follow(self, terms: list[int], nested: list[int]) -> bool:
+        """Whether a conjunction of these literals, and of expressions with these variables, may have something that follows from the rest."""
+        known, touched, named = [literal & ~1 for literal in terms], nested, self.named
+        for literal in terms:
+            if literal & ~1 in named:
+                is_and, own, variables = named[literal & ~1]
+                if is_and != bool(literal & 1):
+                    known += [part & ~1 for part in own]
+                else:
+                    touched = touched + variables
+        different = set(known)
+        return len(different) < len(known) or not different.isdisjoint(touched) or FALSE in different
+
+    def simplify(self, gate: int) -> Term:
+        """Makes the terms of a gate without a name, with those of the gates in it, and leaves out what follows."""
+        terms = dict.fromkeys(part for literal in self.gates[gate] for part in parts(self.simple(literal)))
+        self.nodes[gate] = self.simplified(list(terms))
+        return self.nodes[gate]
+
+    def simple(self, literal: int) -> Term:
+        """A literal as it is written: as such, or as the expression of its gate, without what follows."""
+        gate = literal & ~1
+        if gate not in self.sizes:
+            return literal
+        return signed(self.nodes[gate] if gate in self.nodes else self.simplify(gate), literal)
 
     def simplified(self, terms: list[Term]) -> Term:
         """The conjunction of some terms, without what follows from the others."""
@@ -129,56 +259,111 @@ class Expressions:
 
     def unit(self, literal: int, known: set[int]) -> int:
         """That of a gate with a name, if it is a disjunction of which one literal is left: this one. Else the literal itself."""
-        left = literal if self.is_conjunction(literal) else given(self.meant(literal), known - {literal})
+        if literal & ~1 not in self.named or self.is_conjunction(literal):
+            return literal
+        left = given(signed(self.node(literal & ~1), literal), known - {literal})
         return literal if isinstance(left, Node) else left
 
     def implied(self, literal: int) -> list[int]:
         """The literals that are true if that of a gate with a name is."""
-        return [part for part in parts(self.meant(literal)) if part != literal and not isinstance(part, Node)]
+        if literal & ~1 not in self.named or not self.is_conjunction(literal):
+            return []
+        return [part ^ literal & 1 for part in self.named[literal & ~1][1]]
 
     def is_conjunction(self, literal: int) -> bool:
-        meant = self.meant(literal)
-        return not isinstance(meant, Node) or meant.is_and
+        """Whether the literal of a gate with a name means a conjunction."""
+        return self.named[literal & ~1][0] != bool(literal & 1)
 
-    def meant(self, literal: int) -> Term:
-        """The expression of the literal of a gate with a name; another literal as it is."""
-        if literal & ~1 not in self.named:
-            return literal
-        return signed(self.nodes[literal & ~1], literal)
+    def node(self, gate: int) -> Term:
+        """The terms of a gate."""
+        if gate not in self.nodes:
+            self.nodes[gate] = joined(part for literal in self.gates[gate] for part in parts(self.term(literal)))
+        return self.nodes[gate]
 
     def term(self, literal: int) -> Term:
         """A literal as it is written: as such, or as the expression of its gate."""
-        gate = literal & ~1
-        if gate not in self.nodes or gate in self.named:
-            return literal
-        return signed(self.nodes[gate], literal)
+        return signed(self.node(literal & ~1), literal) if literal & ~1 in self.sizes else literal
 
-    def definitions(self) -> Iterator[tuple[int, list[int]]]:
-        """Each output by its variable, with the gates with names that it needs and no output before it, each after those that it needs."""
-        order = {gate: place for place, gate in enumerate(self.nodes)}
-        seen: set[int] = set()
-        for variable, literal in self.strategy.outputs.items():
-            new, stack = [], list(literals(self.term(literal)))
-            while stack:
-                gate = stack.pop() & ~1
-                if gate in self.named and gate not in seen:
-                    seen.add(gate)
-                    new.append(gate)
-                    stack += literals(self.nodes[gate])
-            yield variable, sorted(new, key=order.__getitem__)
+    def reach(self) -> None:
+        """Finds the first output that needs each gate, by its place, and how often each variable is written."""
+        used = [literal & ~1 for literal in self.strategy.outputs.values()]
+        for gate in used:
+            if gate in self.sizes:
+                self.look(gate)
+        places = {gate: place for place, gate in reversed(list(enumerate(used)))}
+        nodes, place_of = self.nodes, places.get
+        for gate, both in reversed(self.gates.items()):
+            place = place_of(gate)
+            if place is None:
+                continue
+            for literal in literals(nodes[gate]) if gate in nodes else both:
+                below = literal & ~1
+                used.append(below)
+                if place_of(below, place) >= place:
+                    places[below] = place
+        self.places, self.written = places, Counter(used)
 
-    def written(self) -> Iterator[Term]:
-        """All terms that are written."""
-        for variable, new in self.definitions():
-            yield from (self.nodes[gate] for gate in new)
-            yield self.term(self.strategy.outputs[variable])
+    def definitions(self, style: Style) -> "Iterator[tuple[int, list[tuple[int, str]], str]]":
+        """Each output by its variable, with the gates with names that it needs and no output before it, each after those that it needs, and
+        their expressions; and its own."""
+        new: list[list[int]] = [[] for _ in self.strategy.outputs]
+        for gate in self.gates:
+            if gate in self.named and gate in self.places:
+                new[self.places[gate]].append(gate)
+        text = Text(self, style)
+        for gates, (variable, literal) in zip(new, self.strategy.outputs.items()):
+            yield variable, [(gate, text.of_gate(gate, 0)[1]) for gate in gates], text.of_literal(literal)
 
-    def text(self, term: Term, style: Style) -> str:
-        """A term in a style. An expression in another one stands between parentheses."""
-        negation, conjunction, disjunction = style.signs
-        if isinstance(term, Node):
-            parts = [f"({self.text(part, style)})" if isinstance(part, Node) else self.text(part, style) for part in term.terms]
-            return f" {conjunction if term.is_and else disjunction} ".join(parts)
-        if term < 2:
-            return style.constants[term]
-        return (negation if term & 1 else "") + style.name(term & ~1)
+
+class Text:
+    """Expressions in a style. One in another one stands between parentheses."""
+
+    def __init__(self, expressions: Expressions, style: Style) -> None:
+        self.gates, self.nodes, self.sizes = expressions.gates, expressions.nodes, expressions.sizes
+        self.words, self.signs = Words(style), tuple(f" {sign} " for sign in style.signs[1:])
+
+    def of_literal(self, literal: int) -> str:
+        if literal & ~1 not in self.sizes:
+            return self.words[literal]
+        return self.of_gate(literal & ~1, literal & 1)[1]
+
+    def of_gate(self, gate: int, sign: int) -> tuple[int, str]:
+        """The expression of a gate, negated if the sign is 1, after its first literal."""
+        if gate in self.nodes:
+            return self.of_term(signed(self.nodes[gate], sign))
+        terms: list[int] = []
+        nested: list[tuple[int, str]] = []
+        gates, sizes, words, stack = self.gates, self.sizes, self.words, [gate]
+        while stack:
+            for literal in gates[stack.pop()]:
+                below = literal & ~1
+                if below not in sizes:
+                    terms.append(literal ^ sign)
+                elif below in self.nodes:
+                    self.add(signed(self.nodes[below], literal ^ sign), sign, terms, nested)
+                elif literal & 1:
+                    first, text = self.of_gate(below, 1 - sign)
+                    nested.append((first ^ sign, text))
+                else:
+                    stack.append(below)
+        terms.sort()
+        found = [words[term] for term in terms]
+        if nested:
+            nested.sort()
+            found += [f"({text})" for _, text in nested]
+        return terms[0] if terms else nested[0][0] ^ sign, self.signs[sign].join(found)
+
+    def add(self, term: Term, sign: int, terms: list[int], nested: list[tuple[int, str]]) -> None:
+        """Adds a term to those of a conjunction, or with the sign 1 of a disjunction."""
+        for part in parts(term, not sign):
+            if isinstance(part, Node):
+                first, text = self.of_term(part)
+                nested.append((first ^ sign, text))
+            else:
+                terms.append(part)
+
+    def of_term(self, term: Term) -> tuple[int, str]:
+        if not isinstance(term, Node):
+            return term, self.words[term]
+        words = [f"({self.of_term(part)[1]})" if isinstance(part, Node) else self.words[part] for part in term.terms]
+        return next(literals(term)), self.signs[not term.is_and].join(words)

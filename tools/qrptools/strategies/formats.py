@@ -44,14 +44,14 @@ def text(strategy: Strategy, names: Names, formula: Formula) -> Iterator[str]:
     yield f"the {ADJECTIVES[strategy.winner]} player's strategy: {', '.join(sizes)}"
     block = 0
     constants: list[int] = []
-    for variable, new in expressions.definitions():
+    for variable, new, text in expressions.definitions(style):
         if formula.places[variable].block != block:
             yield from numbers(constants, names)
             block, constants = formula.places[variable].block, []
             yield f"block {block} ({ADJECTIVES[strategy.winner]})"
-        yield from (f"    {labels.gate(gate)} = {expressions.text(expressions.nodes[gate], style)}" for gate in new)
+        yield from (f"    {labels.gate(gate)} = {own}" for gate, own in new)
         literal = strategy.outputs[variable]
-        yield f"    {labels.variables[variable]} = {expressions.text(expressions.term(literal), style)}"
+        yield f"    {labels.variables[variable]} = {text}"
         if literal < 2:
             constants.append(variable if literal else -variable)
     yield from numbers(constants, names)
@@ -152,9 +152,9 @@ def module(strategy: Strategy, labels: Labels, ports: list[str]) -> Iterator[str
     yield f"module {MODULE} ("
     yield from (f"    {port}{',' if place < len(ports) else ''}" for place, port in enumerate(ports, 1))
     yield ");"
-    for variable, new in expressions.definitions():
-        yield from (f"    wire {labels.gate(gate)} = {expressions.text(expressions.nodes[gate], style)};" for gate in new)
-        yield f"    assign {labels.variables[variable]} = {expressions.text(expressions.term(strategy.outputs[variable]), style)};"
+    for variable, new, text in expressions.definitions(style):
+        yield from (f"    wire {labels.gate(gate)} = {own};" for gate, own in new)
+        yield f"    assign {labels.variables[variable]} = {text};"
     yield "endmodule"
 
 

@@ -39,9 +39,10 @@ class Strategy(NamedTuple):
         """The same with these outputs alone, and with the inputs and gates that they need."""
         outputs = {variable: self.outputs[variable] for variable in variables}
         needed = {literal & ~1 for literal in outputs.values()}
-        for gate in reversed(self.gates):
+        for gate, (one, other) in reversed(self.gates.items()):
             if gate in needed:
-                needed.update(literal & ~1 for literal in self.gates[gate])
+                needed.add(one & ~1)
+                needed.add(other & ~1)
         inputs = {literal: variable for literal, variable in self.inputs.items() if literal in needed}
         return Strategy(self.winner, inputs, outputs, {gate: both for gate, both in self.gates.items() if gate in needed})
 
@@ -92,10 +93,17 @@ def read_strategy(path: str, formula: Formula, names: Names) -> Strategy:
         winner,
         {circuit.inputs[place]: inputs[place] for place in by_prefix(inputs)},
         {outputs[place]: circuit.outputs[place] for place in by_prefix(outputs)},
-        {gate: circuit.gates[gate] for gate in circuit.order(circuit.outputs) or []},
+        needed_gates(circuit),
     )
     refuse_late(path, found, formula, names)
     return found
+
+
+def needed_gates(circuit: Circuit) -> dict[int, tuple[int, int]]:
+    """The gates that the outputs depend on, each after its inputs."""
+    is_ordered = circuit.is_ordered()
+    order = circuit.needed(circuit.outputs) if is_ordered else circuit.order(circuit.outputs) or []
+    return circuit.gates if is_ordered and len(order) == len(circuit.gates) else {gate: circuit.gates[gate] for gate in order}
 
 
 def refuse_counts(path: str, counts: dict[str, int], formula: Formula) -> None:
@@ -147,7 +155,8 @@ def refuse_late(path: str, strategy: Strategy, formula: Formula, names: Names) -
     last: dict[int, int] = {0: 0}  # the last block of the inputs that a wire depends on
     last.update((literal, formula.places[variable].block) for literal, variable in strategy.inputs.items())
     for gate, (one, other) in strategy.gates.items():
-        last[gate] = max(last[one & ~1], last[other & ~1])
+        before, after = last[one & ~1], last[other & ~1]
+        last[gate] = after if before < after else before
     for variable, literal in strategy.outputs.items():
         block = formula.places[variable].block
         if last[literal & ~1] >= block:
