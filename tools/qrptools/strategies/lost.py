@@ -1,19 +1,23 @@
 """Looks for a run of a strategy that is lost, by a solver and by nothing of the proof that the strategy was made of.
 
+A SAT solver writes a refutation in DRAT if no run is lost, which becomes a trace in QRP; DepQBF writes such a trace by itself.
+
 A part of tools/explain-strategy. A run is lost if a clause of the formula is false, of a winner who is existential; else if all clauses hold.
 That there is such a run is a formula of its own, in which all variables are existential: those of the inputs and outputs, one for each gate with
 the clauses that leave it its value (Tseitin 1968), and one for each clause that may be false.
 """
 
 import os
+import time
 from collections.abc import Iterator
-from typing import Optional
+from typing import Optional, Union
 
-from qrptools.command import writing
+from qrptools.command import read_file, writing
 from qrptools.formula import EXISTS, Clause, Formula
 from qrptools.games.game import State
 from qrptools.program import trimmed
-from qrptools.solver import Solver, verify
+from qrptools.refutations.chains import NoChain, refuted, trace_lines
+from qrptools.solver import SatSolver, Solver, given_up, verify
 from qrptools.strategies.strategy import Strategy
 
 NONE_IS_LOST = "VERIFIED false"  # of the formula that there is a lost run
@@ -60,12 +64,13 @@ class LostRun:
             yield from ([-number, -literal] for literal in clause)
         yield false
 
-    def lines(self) -> Iterator[str]:
-        """The lines of the formula."""
+    def lines(self, has_prefix: bool = True) -> Iterator[str]:
+        """The lines of the formula, with or without the prefix, which SAT solvers do not take."""
         clauses = [*self.circuit(), *self.lost()]
         greatest = max(abs(literal) for clause in clauses for literal in clause)
         yield f"p cnf {greatest} {len(clauses)}\n"
-        yield f"e {' '.join(map(str, range(1, greatest + 1)))} 0\n"
+        if has_prefix:
+            yield f"e {' '.join(map(str, range(1, greatest + 1)))} 0\n"
         yield from (" ".join(map(str, [*clause, 0])) + "\n" for clause in clauses)
 
     def true_literals(self, values: dict[int, int]) -> set[int]:
@@ -78,15 +83,53 @@ class LostRun:
         return next((clause for clause in self.formula.clauses() if true.isdisjoint(clause.literals)), None)
 
 
-def lost_run(question: LostRun, solver: Solver, folder: str) -> Optional[dict[int, int]]:
-    """The inputs of a lost run by variable; None if there is none. Both is what the solver proves, and qrp_cmd verifies."""
+def lost_run(question: LostRun, solver: Union[Solver, SatSolver], folder: str) -> Optional[dict[int, int]]:
+    """The inputs of a lost run by variable; None if there is none, which is what the solver proves and qrp_cmd verifies. Whether the run is lost
+    the caller has to see."""
     path, trace = os.path.join(folder, "lost.qdimacs"), os.path.join(folder, "lost.qrp")
     with writing("the formula of a lost run", NEEDS), open(path, "w") as file:
         file.writelines(question.lines())
+    if isinstance(solver, Solver):
+        true = true_by_trace(path, trace, solver, folder)
+    else:
+        true = true_by_values(question, solver, path, trace)
+    if true is None:
+        return None
+    return {variable: int(question.wires[literal] in true) for literal, variable in question.strategy.inputs.items()}
+
+
+def true_by_trace(path: str, trace: str, solver: Solver, folder: str) -> Optional[set[int]]:
+    """The literals that are true in a lost run, by the trace that the solver writes."""
     line = solver.solve(path, trace, trace)
     verify(path, trace, line, trace)
-    if line == NONE_IS_LOST:
-        return None
-    values, _ = State(path, trimmed(path, trace, [], folder), False).move()
-    true = set(values)
-    return {variable: int(question.wires[literal] in true) for literal, variable in question.strategy.inputs.items()}
+    return None if line == NONE_IS_LOST else set(State(path, trimmed(path, trace, [], folder), False).move()[0])
+
+
+def true_by_values(question: LostRun, solver: SatSolver, path: str, trace: str) -> Optional[set[int]]:
+    """The same by the values that the solver finds. Its refutation becomes a trace; if it has other clauses than those that follow by unit
+    propagation, it is asked once more for a plain one."""
+    ways: list[list[str]] = [[], ["--plain"]]
+    formula, proof, end = f"{path}.cnf", f"{trace}.drat", time.monotonic() + solver.timeout
+
+    def go_on() -> None:
+        if time.monotonic() > end:
+            raise given_up(solver.timeout, 2)
+
+    with writing("the formula of a lost run", NEEDS), open(formula, "w") as file:
+        file.writelines(question.lines(False))
+    for options in ways:
+        true = solver.solve(formula, proof, *options)
+        if true is not None:
+            return true
+        try:
+            whole = Formula(read_file(path))
+            found = refuted(whole, read_file(proof), "the solver's proof", go_on)
+        except NoChain:
+            if options:
+                raise
+            continue
+        with writing("the proof that no run is lost"), open(trace, "w") as file:
+            file.writelines(trace_lines(whole, found))
+        verify(path, trace, NONE_IS_LOST, trace)
+        break
+    return None

@@ -150,13 +150,19 @@ def refuse_mixed(path: str, kind: str, wrong: list[int], formula: Formula, names
         )
 
 
-def refuse_late(path: str, strategy: Strategy, formula: Formula, names: Names) -> None:
-    """Ends the command if an output depends on an input of its own block, or of a later one."""
-    last: dict[int, int] = {0: 0}  # the last block of the inputs that a wire depends on
+def last_blocks(strategy: Strategy, formula: Formula) -> dict[int, int]:
+    """The last block of the inputs that each wire depends on, by its literal; 0 if there is none."""
+    last = {0: 0}
     last.update((literal, formula.places[variable].block) for literal, variable in strategy.inputs.items())
     for gate, (one, other) in strategy.gates.items():
         before, after = last[one & ~1], last[other & ~1]
         last[gate] = after if before < after else before
+    return last
+
+
+def refuse_late(path: str, strategy: Strategy, formula: Formula, names: Names) -> None:
+    """Ends the command if an output depends on an input of its own block, or of a later one."""
+    last = last_blocks(strategy, formula)
     for variable, literal in strategy.outputs.items():
         block = formula.places[variable].block
         if last[literal & ~1] >= block:
