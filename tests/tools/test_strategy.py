@@ -354,6 +354,8 @@ def try_random_circuits(use):
             answer = wins(given, sample.winner == "e")
             answers.append(answer)
             try_verified(use, given, answer)
+            if not seed % 3:
+                try_verified(use, given, answer, "--solver", "depqbf")
     expect("some random circuits win, and some do not", not solver or 2 < sum(answers) < RANDOM_CIRCUITS - 2, answers)
     for program in "yosys", "berkeley-abc", "dot":
         if not shutil.which(program):
@@ -365,9 +367,9 @@ def try_random_circuits(use):
 WINS = "the circuit wins: no output depends on a later block, and qrp_cmd has verified that no run is lost\n"
 
 
-def try_verified(use, given, wanted):
+def try_verified(use, given, wanted, *words):
     """What --verify says of a circuit; the run that it shows is lost."""
-    ended = use.run(TOOL, *given.words("--verify"))
+    ended = use.run(TOOL, *given.words("--verify", *words))
     if wanted:
         use.expect(f"{given.name} wins", ended, 0, WINS)
         return
@@ -421,6 +423,65 @@ def try_solvers(use):
             solver.chmod(0o755)
         ended = use.run(TOOL, "--verify", "--solver", solver, "--circuit", path, f"{BOX}.qdimacs")
         use.expect(f"the solver is {name}", ended, status, "", said)
+
+
+def try_sat_solvers(use):
+    """A SAT solver that is not there, has no answer or a wrong one, does not end, or writes what does not follow by unit propagation."""
+    path = use.write("box.aag", made(use, Path(f"{BOX}.qdimacs"), Path(f"{BOX}.qrp"), ()))
+    rat = 'for last; do :; done; echo "1 0" > "$last"; '
+    for name, script, status, said in (
+        ("silent", "exit 0", 2, "the solver has no answer, but status 0"),
+        ("broken", "echo 'it is broken' >&2; exit 134", 1, "the solver has no answer, but status 134: it is broken"),
+        ("without a proof", "exit 20", 2, "lost.qrp.drat cannot be read: No such file or directory"),
+        ("cut", 'for last; do :; done; : > "$last"; exit 20', 1, "the solver's proof: the proof ends without the empty clause"),
+        ("wrong", "echo v 1 2 3 0; exit 10", 3, "the run that was found is not lost: this is a fault of this tool or of the solver"),
+        ("without values", "exit 10", 3, "the run that was found is not lost"),
+        ("never plain", f"{rat}exit 20", 1, "the solver's proof, line 1: the clause does not follow by unit propagation; if it follows by RAT"),
+        ("slow", "sleep 100", 2, "the solver was given up after 0.5 seconds"),
+        ("none", None, 2, "cannot be run (No such file or directory): install it (on Debian: apt-get install cadical)"),
+    ):
+        solver = use.folder / name.replace(" ", "_")
+        if script:
+            solver = use.write(solver.name, f"#!/bin/sh\n{script}\n")
+            solver.chmod(0o755)
+        limit = ["--timeout", "0.5"] if name == "slow" else []
+        ended = use.run(TOOL, "--verify", *limit, "--sat-solver", solver, "--circuit", path, f"{BOX}.qdimacs")
+        use.expect(f"the SAT solver is {name}", ended, status, "", said)
+    slow = use.write("slow_depqbf", "#!/bin/sh\nsleep 100\n")
+    slow.chmod(0o755)
+    ended = use.run(TOOL, "--verify", "--timeout", "0.5", "--solver", slow, "--circuit", path, f"{BOX}.qdimacs")
+    use.expect("DepQBF is slow", ended, 2, "", "the solver was given up after 0.5 seconds")
+    if not shutil.which("cadical"):
+        skip("circuits verified by a SAT solver", "there is no cadical")
+        return
+    ended = use.run(TOOL, "--verify", "--sat-solver", "cadical", "--circuit", path, f"{BOX}.qdimacs")
+    use.expect("by cadical", ended, 0, WINS)
+    plain = use.write("plain", f'#!/bin/sh\ncase "$*" in *--plain*) exec cadical "$@" ;; esac\n{rat}exit 20\n')
+    plain.chmod(0o755)
+    ended = use.run(TOOL, "--verify", "--sat-solver", plain, "--circuit", path, f"{BOX}.qdimacs")
+    use.expect("by a solver that writes what follows by RAT, but with --plain", ended, 0, WINS)
+
+
+def try_smaller(use):
+    """A circuit that berkeley-abc makes smaller keeps its symbols, is read again, and wins."""
+    if not shutil.which("berkeley-abc"):
+        skip("circuits made smaller", "there is no berkeley-abc")
+        return
+    for formula, trace in examples():
+        path, small = use.write("strategy.aig", made(use, formula, trace)), use.folder / "smaller.aig"
+        small.unlink(missing_ok=True)
+        given = read_circuit(path.read_bytes())
+        if not given.outputs:
+            continue
+        script = f"read_aiger {path}; dc2; fraig; write_aiger -s {small}"
+        done = subprocess.run(["berkeley-abc", "-q", script], capture_output=True, text=True, check=False)
+        if not expect(f"{formula.stem}: it is made smaller", done.returncode == 0 and small.is_file(), done):
+            continue
+        found = read_circuit(small.read_bytes())
+        expect(f"{formula.stem}: no larger", len(found.gates) <= len(given.gates), (len(found.gates), len(given.gates)))
+        expect(f"{formula.stem}: the symbols stay", sorted(found.names.items()) == sorted(given.names.items()), (found.names, given.names))
+        if shutil.which("depqbf") or shutil.which("cadical"):
+            use.expect(f"{formula.stem}: the smaller one", use.run(TOOL, "--verify", "--circuit", small, formula), 0, WINS)
 
 
 # ---- wrong circuits, and wrong words
@@ -699,6 +760,11 @@ def try_words(use):
         ["--verify", "--format", "aag", *box],
         ["--verify", "--block", "1", *box],
         ["--solver", "x", *box],
+        ["--sat-solver", "x", *box],
+        ["--timeout", "1", *box],
+        ["--verify", "--timeout", "0", *box],
+        ["--verify", "--solver", "x", "--sat-solver", "x", *box],
+        ["--verify", "--only-free", *box],
         ["--qu", "--circuit", path, box[0]],
     ):
         use.expect(f"the words {words}", use.run(TOOL, *words), 2, "", "usage: ")
@@ -749,6 +815,61 @@ def try_words(use):
             (done.returncode, f"the standard output cannot be written: {reason}" in done.stderr) == (2, True),
             done,
         )
+
+
+def try_gates(use):
+    """The gates of the formula are left out by --only-free: variables of the innermost block that clauses define by variables before them."""
+    # 3 is free, 4 the conjunction of 1 and 3, 5 that of 2 and 4; 6 is free, though 7 is its negation.
+    clauses = ["4 -1 -3", "-4 1", "-4 3", "5 -2 -4", "-5 2", "-5 4", "6 7", "-6 -7"]
+    formula = use.write("formula", f"p cnf 7 {len(clauses)}\na 1 2 0\ne 3 4 5 6 7 0\n" + "".join(f"{clause} 0\n" for clause in clauses))
+    names = use.write("names", "1 x\n2 y\n3 z\n4 and\n5 both\n6 free\n7 negated\n")
+    path = use.write("circuit", "aag 3 2 0 5 1\n2\n4\n1\n2\n6\n0\n1\n6 4 2\ni0 1\ni1 2\n" + "".join(f"o{at} {at + 3}\n" for at in range(5)))
+    head = "the existential player's strategy: {}\nblock 2 (existential)\n"
+    for words, wanted in (
+        (["--only-free"], head.format("2 outputs, 0 inputs, 0 gates") + "    z = true\n    free = false\n"),
+        (["--only-free", "--only", "both,z"], head.format("1 output, 0 inputs, 0 gates") + "    z = true\n"),
+        (["--only-free", "--only", "both"], "the existential player's strategy: 0 outputs, 0 inputs, 0 gates\n"),
+        (["--only-free", "--block", "2", "--format", "verilog"], None),
+    ):
+        found = use.shown("--names", names, *words, "--circuit", path, formula)
+        expect(f"free outputs {words}", found == wanted if wanted else "output z" in found and "both" not in found and "input" not in found, found)
+    found = use.shown("--only-free", f"{BOX}.qdimacs", f"{BOX}.qrp") if use.strategy.is_file() else ""
+    expect("a universal winner has no gates", not found or found.startswith("the universal player's strategy: 5 outputs,"), found)
+
+
+def seconds_of(use, *words):
+    """The seconds of a processor that a command takes, and what it prints."""
+    before = resource.getrusage(resource.RUSAGE_CHILDREN)
+    ended = use.run(*words)
+    after = resource.getrusage(resource.RUSAGE_CHILDREN)
+    expect(f"{words[1:3]} of a large circuit: ends well", ended.returncode == 0 and not ended.stderr, ended.stderr)
+    return after.ru_utime - before.ru_utime, ended.stdout
+
+
+def try_large(use):
+    """A large circuit of many blocks is shown and played in a small multiple of the time in which it is read and written."""
+    blocks, size = 400, 150  # of inputs, and gates of each output
+    pick, gates, outputs = random.Random(1), [], []
+    literal = lambda block: 2 * (pick.randrange(2 * block) + 1) + pick.randint(0, 1)
+    for block in range(1, blocks + 1):
+        wire = literal(block)
+        for place in range(size):
+            wire = 2 * (2 * blocks + len(gates) + 1)
+            before = wire - 2 if place else literal(block)
+            gates.append((wire, before ^ pick.randint(0, 1), literal(block)))
+        outputs.append(wire)
+    text = [f"aag {2 * blocks + len(gates)} {2 * blocks} 0 {blocks} {len(gates)}", *map(str, range(2, 4 * blocks + 1, 2)), *map(str, outputs)]
+    text += [" ".join(map(str, gate)) for gate in gates]
+    inputs = [3 * at + more for at in range(blocks) for more in (1, 2)]
+    text += [*(f"i{at} {it}" for at, it in enumerate(inputs)), *(f"o{at} {3 * at + 3}" for at in range(blocks))]
+    path = use.write("large.aag", "".join(line + "\n" for line in text))
+    prefix = "".join(f"a {3 * at + 1} {3 * at + 2} 0\ne {3 * at + 3} 0\n" for at in range(blocks))
+    formula = use.write("large.qdimacs", f"p cnf {3 * blocks} 0\n{prefix}")
+    least, found = seconds_of(use, TOOL, "--format", "aag", "--circuit", path, formula)
+    expect("a large circuit: all gates are there", found.count("\n") == len(text), found[:100])
+    for name, words in ("explain-strategy", [TOOL, "--circuit", path, formula]), ("play", [PLAY, "--random", "1", "--strategy", path, formula]):
+        seconds, _ = seconds_of(use, *words)
+        expect(f"{name} of {len(gates)} gates: at most 4 times the seconds that it takes to write them", seconds <= 4 * least, (seconds, least))
 
 
 # ---- the tools that use strategies
@@ -880,18 +1001,32 @@ PARTS = [
     try_random_circuits,
     try_examples_verified,
     try_solvers,
+    try_sat_solvers,
+    try_smaller,
     try_wrong_circuits,
     try_no_variables,
     try_expressions,
     try_odd_names,
     try_buses,
     try_choices,
+    try_gates,
+    try_large,
     try_words,
     try_play,
     try_solve,
     try_full_folder,
 ]
-WITHOUT_PROGRAM = [try_random_circuits, try_wrong_circuits, try_no_variables, try_expressions, try_odd_names, try_buses, try_choices]
+WITHOUT_PROGRAM = [
+    try_random_circuits,
+    try_wrong_circuits,
+    try_no_variables,
+    try_expressions,
+    try_odd_names,
+    try_buses,
+    try_choices,
+    try_gates,
+    try_large,
+]
 LEAST = 1944
 
 

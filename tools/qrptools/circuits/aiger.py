@@ -230,7 +230,7 @@ class Reader:
         words = text.decode(errors="replace").split(" ")
         if len(lines) < count or set(map(bytes.count, lines, repeat(b" "))) - {2} or text.translate(None, b"0123456789 ") or "" in words:
             return None
-        if max(map(len, words), default=0) > DIGITS:
+        if max(map(len, lines), default=0) > 3 * DIGITS + 2:
             return None
         numbers = list(map(int, words))
         self.place, self.line = end + len(text) + 1, self.line + count

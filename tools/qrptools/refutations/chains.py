@@ -66,7 +66,7 @@ def trace_lines(formula: Formula, found: Propagation) -> Iterator[str]:
     numbers = needed(found)
     count = sum(max(1, len(found.derived[number].chain) - 1) for number in numbers)
     yield f"p qrp {formula.variables} {count}\n"
-    yield from (f"e {text.decode()} 0\n" for _, text in formula.sets)
+    yield f"e {' '.join(text.decode() for _, text in formula.sets)} 0\n"
     steps: dict[int, int] = {}  # by the clauses
     step = 0
     for number in numbers:

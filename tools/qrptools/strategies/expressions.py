@@ -204,6 +204,9 @@ class Expressions:
                 if below not in sizes:
                     terms.append(literal)
                 elif literal & 1 or below in looked:
+                    if sizes[below] == 2 and below not in looked and self.are_apart(*gates[below]):
+                        nested += [inner & ~1 for inner in gates[below]]
+                        continue
                     is_and, own, variables = looked.get(below) or self.look(below)
                     if is_and == bool(literal & 1) and len(variables) > 1:
                         nested += variables
@@ -215,6 +218,15 @@ class Expressions:
         if terms and self.may_follow(terms, nested):
             return look_of(self.simplify(gate))
         return True, terms, nested + [literal & ~1 for literal in terms]
+
+    def are_apart(self, one: int, other: int) -> bool:
+        """Whether two literals are written as such, and none says something of the other."""
+        first, second, sizes, named = one & ~1, other & ~1, self.sizes, self.named
+        if first in sizes or second in sizes:
+            return False
+        if first in named or second in named:
+            return not self.may_follow([one, other], [])
+        return first != second and first > 0 and second > 0
 
     def may_follow(self, terms: list[int], nested: list[int]) -> bool:
         """Whether a conjunction of these literals, and of expressions with these variables, may have something that follows from the rest."""
@@ -341,11 +353,14 @@ class Text:
                     terms.append(literal ^ sign)
                 elif below in self.nodes:
                     self.add(signed(self.nodes[below], literal ^ sign), sign, terms, nested)
-                elif literal & 1:
+                elif not literal & 1:
+                    stack.append(below)
+                elif sizes[below] == 2 and gates[below][0] & ~1 not in sizes and gates[below][1] & ~1 not in sizes:
+                    one, other = sorted(gates[below])
+                    nested.append((one ^ 1, words[one ^ 1 ^ sign] + self.signs[1 - sign] + words[other ^ 1 ^ sign]))
+                else:
                     first, text = self.of_gate(below, 1 - sign)
                     nested.append((first ^ sign, text))
-                else:
-                    stack.append(below)
         terms.sort()
         found = [words[term] for term in terms]
         if nested:
