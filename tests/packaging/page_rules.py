@@ -23,6 +23,12 @@ RUN = [
     Run("docs/SOLVER.md", "/* pieces.c", "", 'cp "$block" pieces.c'),
     Run("docs/SOLVER.md", "cc pieces.c", "VERIFIED false\n"),
     Run("docs/STRATEGY.md", "echo 'module repaired", "confirmed\n"),
+    Run(
+        "docs/STRATEGY.md",
+        "bin/qrp_strategy --binary tests/traces/kbkf6",
+        "aig 106 18 0 6 88\naig 90 18 0 6 72\nwins\n",
+        'bash -e "$block" | grep -o wins > said; head -q -n 1 strategy.aig smaller.aig; cat said',
+    ),
     Run("docs/TUTORIAL.md", "yosys -q -p 'read_verilog examples/average/average.v; prep", "confirmed\n"),
     Run("docs/TUTORIAL.md", "yosys -q -p 'read_verilog -formal examples/arbiter", "1\n", 'bash -e "$block"; grep -a -c "^i4 gb$" watched.aig'),
     Run(
@@ -72,6 +78,12 @@ RUN = [
         "yosys ",
         "c as numbers: h_op1=0 h_op2=2\nV -1 0\nV -2 0\nV -3 0\nV 4 0\nV -5 0\n",
         'cp examples/average/average.v .; bash -e "$block"; [ $? = 10 ] || true',
+    ),
+    Run(
+        "man/qrp-drat-to-qrp.1",
+        "grep ",
+        "s UNSATISFIABLE\nVERIFIED false\n",
+        'printf "p cnf 1 2\\ne 1 0\\n1 0\\n-1 0\\n" > f.qdimacs; bash "$block"',
     ),
     Run("man/qrp-draw-proof.1", "qrp-draw-proof", "1\n", 'bash -e "$block"; grep -c "<svg " proof.svg'),
     Run(

@@ -91,18 +91,6 @@ def given(term: Term, known: set[int]) -> Term:
     return joined((part for new in left if new != int(term.is_and) for part in parts(new, term.is_and)), term.is_and)
 
 
-class Words(dict[int, str]):
-    """How literals are written in a style."""
-
-    def __init__(self, style: Style) -> None:
-        super().__init__(enumerate(style.constants))
-        self.style = style
-
-    def __missing__(self, literal: int) -> str:
-        self[literal] = word = (self.style.signs[0] if literal & 1 else "") + self.style.name(literal & ~1)
-        return word
-
-
 # What an expression has: whether it is a conjunction, which literals are terms of it, and the variables of all its literals, those of the
 # terms last. One that is a literal is a conjunction.
 Look = tuple[bool, list[int], list[int]]
@@ -132,11 +120,12 @@ class Expressions:
         """Finds the gates that have names, if gates are used as often as in the circuit, and the expressions in which something follows."""
         self.uses = Counter([literal & ~1 for both in self.gates.values() for literal in both])
         self.uses.update(literal & ~1 for literal in self.strategy.outputs.values())
-        sizes, size_of, uses = self.sizes, self.sizes.get, self.uses
+        sizes, size_of = self.sizes, self.sizes.get
+        often = {gate for gate, count in self.uses.items() if count > 1}
         for gate, (one, other) in self.gates.items():
             whole = size_of(one & ~1, 1) + size_of(other & ~1, 1)
             sizes[gate] = whole if whole <= LARGEST else self.cut(one & ~1, other & ~1)
-            if uses[gate] > 1:
+            if gate in often:
                 self.give_name(gate)
         self.reach()
 
@@ -181,10 +170,13 @@ class Expressions:
 
     def give_name(self, gate: int) -> None:
         """Gives a gate a name, unless it is a literal."""
-        found = self.look(gate)
+        found = self.looked.pop(gate, None) or self.look_anew(gate)
         if len(found[2]) > 1:
             self.named[gate] = found
-            del self.sizes[gate], self.looked[gate]
+            del self.sizes[gate]
+        else:
+            self.looked[gate] = found
+            self.sizes[gate] = 1
 
     def look(self, gate: int) -> Look:
         """What the expression of a gate without a name has, and so its size. Its terms are made if something may follow in it."""
@@ -221,12 +213,14 @@ class Expressions:
 
     def are_apart(self, one: int, other: int) -> bool:
         """Whether two literals are written as such, and none says something of the other."""
-        first, second, sizes, named = one & ~1, other & ~1, self.sizes, self.named
-        if first in sizes or second in sizes:
+        first, second, named = one & ~1, other & ~1, self.named
+        if first in self.sizes or second in self.sizes or first == second or not first or not second:
             return False
-        if first in named or second in named:
+        if first not in named:
+            return second not in named or first not in named[second][2]
+        if second in named:
             return not self.may_follow([one, other], [])
-        return first != second and first > 0 and second > 0
+        return second not in named[first][2]
 
     def may_follow(self, terms: list[int], nested: list[int]) -> bool:
         """Whether a conjunction of these literals, and of expressions with these variables, may have something that follows from the rest."""
@@ -332,7 +326,12 @@ class Text:
 
     def __init__(self, expressions: Expressions, style: Style) -> None:
         self.gates, self.nodes, self.sizes = expressions.gates, expressions.nodes, expressions.sizes
-        self.words, self.signs = Words(style), tuple(f" {sign} " for sign in style.signs[1:])
+        negation, *signs = style.signs
+        self.signs = [f" {sign} " for sign in signs]
+        self.words = dict(enumerate(style.constants))  # of the literals that are written as such
+        for literal in (*expressions.strategy.inputs, *expressions.named):
+            self.words[literal] = name = style.name(literal)
+            self.words[literal + 1] = negation + name
 
     def of_literal(self, literal: int) -> str:
         if literal & ~1 not in self.sizes:
