@@ -30,7 +30,9 @@ REFUSED = "p qrp 0 0\nr unsat\n"  # by C4
 CIRCUIT = "aag 3 2 0 1 1\n2\n4\n6\n6 4 2\n"
 STRATEGY = "aag 1 1 0 1 0\n2\n0\ni0 1\no0 2\n"  # of FORMULA
 
-# A tool: its words after the name, in which FORMULA, TRACE, LIST, CIRCUIT, STRATEGY and SOLVER are files; the statuses of a file that cannot be read, of
+PLAIN, PROOF = "p cnf 1 2\ne 1 0\n1 0\n-1 0\n", "0\n"  # a formula without universal variables, and its refutation
+
+# A tool: its words after the name, in which FORMULA, TRACE, LIST, CIRCUIT, STRATEGY, SOLVER and PROOF are files; the statuses of a file that cannot be read, of
 # a refused proof, and of the formula in the place of the trace; whether it runs the program, and keeps pipes; the status of right use, that
 # of a wrong command line, and that of an output that cannot be written.
 Tool = namedtuple("Tool", "name words unread refused mistaken runs keeps right usage output", defaults=[0, 2, 2])
@@ -52,6 +54,7 @@ TOOLS = [
     Tool("from-aiger", ["CIRCUIT"], 2, None, None, False, False),
     Tool("explain-strategy", ["FORMULA", "TRACE"], 2, 1, 1, True, True),
     Tool("explain-strategy", ["--circuit", "STRATEGY", "FORMULA"], 2, None, None, False, True),
+    Tool("drat-to-qrp", ["FORMULA", "PROOF"], 2, None, None, False, True),
     Tool("check-many", ["LIST"], 2, 1, 1, True, False),
     Tool("check-many", ["--json", "LIST"], 2, 1, 1, True, False),
 ]
@@ -79,6 +82,8 @@ class Trial:
             rows = self.folder / "list"
             rows.write_text(f"name\t{formula}\t{trace}\n")
         circuit = self.write("circuit", CIRCUIT) if formula == FORMULA else formula
+        if "PROOF" in self.tool.words and formula == FORMULA:
+            formula = self.write("plain", PLAIN)
         files = {
             "FORMULA": formula,
             "CIRCUIT": circuit,
@@ -86,6 +91,7 @@ class Trial:
             "LIST": rows,
             "SOLVER": self.solver(),
             "STRATEGY": self.write("strategy", STRATEGY),
+            "PROOF": self.write("proof", PROOF),
         }
         return [sys.executable, str(ROOT / "tools" / self.tool.name), *(str(files.get(word, word)) for word in self.tool.words)]
 
