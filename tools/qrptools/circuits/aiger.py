@@ -6,6 +6,7 @@ A literal is an even number for a variable and the next odd one for its negation
 
 import re
 from collections.abc import Sequence
+from functools import cached_property
 from itertools import repeat
 from operator import gt
 from typing import NamedTuple, Optional
@@ -64,6 +65,7 @@ class Circuit:
                 stack += below
         return found
 
+    @cached_property
     def is_ordered(self) -> bool:
         """Whether each gate has a greater literal than its inputs, and than the gate before it."""
         own = list(self.gates)
@@ -301,7 +303,7 @@ class Reader:
             for literal in (*used, *(literal for inputs in circuit.gates.values() for literal in inputs)):
                 if literal > 1 and literal & ~1 not in own and literal & ~1 not in circuit.gates:
                     raise finding(f"{self.path}: the literal {literal} is used, and neither an input nor a latch nor a gate")
-        if not circuit.is_ordered() and circuit.order([*used, *circuit.gates]) is None:
+        if not circuit.is_ordered and circuit.order([*used, *circuit.gates]) is None:
             raise finding(f"{self.path}: a gate depends on itself")
 
 

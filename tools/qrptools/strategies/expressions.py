@@ -354,18 +354,26 @@ class Text:
                     self.add(signed(self.nodes[below], literal ^ sign), sign, terms, nested)
                 elif not literal & 1:
                     stack.append(below)
-                elif sizes[below] == 2 and gates[below][0] & ~1 not in sizes and gates[below][1] & ~1 not in sizes:
-                    one, other = sorted(gates[below])
-                    nested.append((one ^ 1, words[one ^ 1 ^ sign] + self.signs[1 - sign] + words[other ^ 1 ^ sign]))
+                elif sizes[below] == 2:
+                    nested.append(self.of_pair(below, sign))
                 else:
                     first, text = self.of_gate(below, 1 - sign)
                     nested.append((first ^ sign, text))
         terms.sort()
-        found = [words[term] for term in terms]
-        if nested:
-            nested.sort()
-            found += [f"({text})" for _, text in nested]
+        nested.sort()
+        found = [words[term] for term in terms] + [f"({text})" for _, text in nested]
         return terms[0] if terms else nested[0][0] ^ sign, self.signs[sign].join(found)
+
+    def of_pair(self, gate: int, sign: int) -> tuple[int, str]:
+        """The expression of two literals as a part of one of this sign, after its first literal in a conjunction."""
+        one, other = self.gates[gate]
+        if one & ~1 in self.sizes or other & ~1 in self.sizes:
+            first, text = self.of_gate(gate, 1 - sign)
+            return first ^ sign, text
+        if one > other:
+            one, other = other, one
+        turned = 1 - sign
+        return one ^ 1, self.words[one ^ turned] + self.signs[turned] + self.words[other ^ turned]
 
     def add(self, term: Term, sign: int, terms: list[int], nested: list[tuple[int, str]]) -> None:
         """Adds a term to those of a conjunction, or with the sign 1 of a disjunction."""

@@ -101,9 +101,8 @@ def read_strategy(path: str, formula: Formula, names: Names) -> Strategy:
 
 def needed_gates(circuit: Circuit) -> dict[int, tuple[int, int]]:
     """The gates that the outputs depend on, each after its inputs."""
-    is_ordered = circuit.is_ordered()
-    order = circuit.needed(circuit.outputs) if is_ordered else circuit.order(circuit.outputs) or []
-    return circuit.gates if is_ordered and len(order) == len(circuit.gates) else {gate: circuit.gates[gate] for gate in order}
+    order = circuit.needed(circuit.outputs) if circuit.is_ordered else circuit.order(circuit.outputs) or []
+    return circuit.gates if circuit.is_ordered and len(order) == len(circuit.gates) else {gate: circuit.gates[gate] for gate in order}
 
 
 def refuse_counts(path: str, counts: dict[str, int], formula: Formula) -> None:
