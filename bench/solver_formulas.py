@@ -1,8 +1,10 @@
 """Formulas of known families that bench/beside has the solver DepQBF write traces of. Those of tests/traces are of the same families."""
 
 import random
+import subprocess
 from collections.abc import Callable
 from itertools import product
+from pathlib import Path
 from typing import NamedTuple
 
 from slow_inputs import line
@@ -126,3 +128,11 @@ SOLVED = {
     "false-lazy": Solved(lambda: rand(29, "eae", 60, 900, 5), LAZY),
     "true": Solved(lambda: rand(31, "aeae", 50, 500, 5), TRADITIONAL),
 }
+
+
+def write_solved(name: str, formula: Path, trace: Path) -> None:
+    """Writes a formula, and the trace that the solver writes of it."""
+    formula.write_text(text_of(SOLVED[name].make()))
+    words = ["depqbf", "--trace=qrp", "--dep-man=simple", "--no-qbce-dynamic", SOLVED[name].option, str(formula)]
+    with trace.open("wb") as out:
+        subprocess.run(words, stdout=out, check=False)
