@@ -1,14 +1,13 @@
 -- From a run over opened files to the report of the program.
-use Rattle.std.proofs.Common.{rules, ◌≡◌, ◌∙◌, ◌<◌, ℕ, List, [], Option, Some, None, IfSome, inr, sym, ap, map, length, get_or}
+use Rattle.std.proofs.Common.{◌≡◌, ◌∙◌, ◌<◌, ℕ, List, [], Option, Some, None, IfSome, inr, sym, ap, map, length, get_or}
 use Rattle.std.proofs.Common.{Result, Ok, Err, IfOk, IfErr}
 use Rattle.std.proofs.lemmas.List.{get_or-map}
 use Rattle.qbf_text.specs.declared.source.Source as source
 use Rattle.qrp_program.specs.Output.{Report}
-use Rattle.qrp_program.specs.Program.{start_report, word, IsOnBoth, IsOnFormula, IsOnFiles, IsOnOpened, IsProgram, Opens}
+use Rattle.qrp_program.specs.Program.{start_report, word, IsOnBoth, IsOnFormula, IsOnFiles, IsOnOpened, IsProgram, Opens, no_trace}
 use Rattle.qrp_program.specs.Words.{Request}
 use Rattle.qrp_program.specs.declared.jobs.Jobs as jobs
 use Rattle.qrp_program.specs.declared.start.Start.{Start}
-use Rattle.qrp_check.specs.Checked.{call_of}
 
 -- the word at a place, as it stands in a list of texts
 word_is : {A : Type 0} (f : A → List ℕ) (xs : List A) (i : ℕ) (x : A) (text : List ℕ) → i < length xs → x ≡ get_or xs i x → text ≡ f x
@@ -51,12 +50,13 @@ on_files program files opens first second j (Ok f) (Ok g) r ok err on = ok r (g.
 on_files program files opens first second j (Ok f) (Err start) r ok err on = absurd on
 on_files program files opens first second j (Err start) left r ok err on = rw on err
 
--- the same of a job that asks for no trace, whatever the source is that stands for one
-pub on_formula : {J F T : Type 0} (program : jobs.Ghosts J) (files : source.Ghosts F) (traces : source.Ghosts T) (opens : Opens)
-    (first : List ℕ) (j : J) (opened left : Result (F × T) Start) (r : Report)
+-- the same of a job that asks for no trace
+pub on_formula : {J F : Type 0} (program : jobs.Ghosts J) (files : source.Ghosts F) (opens : Opens) (first : List ℕ) (j : J)
+    (opened left : Result (F × List ℕ) Start) (r : Report)
     → IfOk opened (λ f. (r : Report) → IsOnFormula program files j f.0 r → IsOnFiles program files opens j first None r)
+    → IfOk opened (λ f. f.1 ≡ [])
     → IfErr opened (λ start. IsOnFiles program files opens j first None (start_report (program.refusals j) start))
-    → IsOnOpened program files traces j opened left r → IsOnFiles program files opens j first None r
-on_formula program files traces opens first j (Ok f) (Ok g) r ok err on = ok r (g.0, call_of traces f.1 g.1, on)
-on_formula program files traces opens first j (Ok f) (Err start) r ok err on = absurd on
-on_formula program files traces opens first j (Err start) left r ok err on = rw on err
+    → IsOnOpened program files no_trace j opened left r → IsOnFiles program files opens j first None r
+on_formula program files opens first j (Ok (f, rest)) (Ok (g, left)) r ok none err on = ok r (g, left, rw none at on)
+on_formula program files opens first j (Ok f) (Err start) r ok none err on = absurd on
+on_formula program files opens first j (Err start) left r ok none err on = rw on err

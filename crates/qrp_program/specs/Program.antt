@@ -1,7 +1,7 @@
 -- The report of a whole program on the words after its name, whatever its jobs are.
-use Rattle.std.specs.Prelude.{◌≡◌, ℕ, List, [], ◌⊎◌, Option, Some, None, Result, Ok, Err, get_or}
+use Rattle.std.specs.Prelude.{◌≡◌, ℕ, List, [], ◌⊎◌, Option, Some, None, Result, Ok, Err, get_or, length}
 use Rattle.qbf_text.specs.declared.source.Source as source
-use Rattle.qrp_check.specs.Checked.{SourceCall, call_of}
+use Rattle.qrp_check.specs.Checked.{call_of}
 use Rattle.qrp_program.specs.Lines.{start_line, start_status}
 use Rattle.qrp_program.specs.Output.{Report}
 use Rattle.qrp_program.specs.Words.{Request}
@@ -33,9 +33,14 @@ IsOnFile {F = F} files opens stream no_file path says r =
     ((e : OpenFault) × opens path (Err e) × (r ≡ start_report stream (start_without_file no_file e)))
     ⊎ ((f : F) × opens path (Ok (files.remaining f)) × (files.failures f ≡ 0) × says f)
 
--- the report of a job that asks for no trace on an opened formula, which is in some state after the run, and on some trace
+-- a source without bytes, which stands for a trace if a job asks for none
+abbrev pub no_trace : source.Ghosts (List ℕ)
+no_trace = record { remaining = λ s. Some s; bound = λ s. length s; failures = λ s. 0 }
+
+-- the report of a job that asks for no trace on an opened formula, which is in some state after the run
 abbrev pub IsOnFormula : {J F : Type 0} → jobs.Ghosts J → source.Ghosts F → J → F → Report → Type 0
-IsOnFormula {F = F} program formula j f r = (f2 : F) × (trace : SourceCall) × program.is_output j (call_of formula f f2) trace r
+IsOnFormula {F = F} program formula j f r =
+    (f2 : F) × (left : List ℕ) × program.is_output j (call_of formula f f2) (call_of no_trace [] left) r
 
 -- The report of a job on an opened formula and an opened trace, each of which is in some state after the run: so a failure that is reported
 -- is one of an opened file.

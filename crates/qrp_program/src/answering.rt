@@ -1,6 +1,6 @@
 //! From the command line to a run over files.
 
-ghost use Rattle.std.specs.Prelude.{◌≡◌, Some, None, Ok, Err, map, IfOk, IfErr};
+ghost use Rattle.std.specs.Prelude.{◌≡◌, [], Some, None, Ok, Err, map, IfOk, IfErr};
 ghost use Rattle.std.specs.String.{string_bytes};
 ghost use Rattle.qrp_program.specs.Lines.{start_line, start_status};
 ghost use Rattle.qrp_program.specs.Output.{Report, IsSent, IsReported};
@@ -89,6 +89,7 @@ fn open_formula<'a, J: Jobs, F: Open>(
     ensures opened { IfOk result (λ f. (r : Report)
         → IsOnFormula J.Jobs F.File.Source job f.0 r
         → IsOnFiles J.Jobs F.File.Source (F.opens files.now) job path.now None r) }
+    ensures no_trace { IfOk result (λ f. f.1 ≡ []) }
     ensures refused { IfErr result (λ start.
         IsOnFiles J.Jobs F.File.Source (F.opens files.now) job path.now None
         (start_report (J.refusals job) start)) }

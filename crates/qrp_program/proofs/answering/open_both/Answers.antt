@@ -11,5 +11,5 @@ returns-in_err-trace-clause-refused g c =
       c.in_ok-formula.formula,
       c.in_ok-formula.ensures.file,
       c.in_ok-formula.ensures.failures,
-      inl (why.0, why.1, ap (start_report (g.J.refusals c.args.job)) (p.2 ∙ why.2)),
+      inl (why.0, why.1, ap (start_report (g.J.Jobs.refusals c.args.job)) (p.2 ∙ why.2)),
     ))
