@@ -140,7 +140,7 @@ def try_solver(use):
     expect("drat: some random formulas are false", found >= LEAST_UNSATISFIABLE, found)
 
 
-LEAST = 150
+LEAST = 170
 
 
 def main():

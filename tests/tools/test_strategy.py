@@ -1027,7 +1027,7 @@ WITHOUT_PROGRAM = [
     try_gates,
     try_large,
 ]
-LEAST = 1944
+LEAST = 2060
 
 
 def main():
