@@ -763,7 +763,7 @@ def try_runs(folder):
     for name, options, wanted in (
         ("no value of the other player", [*words, "--reply", "ra@0", "--circuit", strategy, formula], "'ra@0' is no value of the other player"),
         ("no model", ["--reply", "ga@0", "--circuit", strategy, formula], "--reply goes with --model"),
-        ("a format", [*words, "--format", "aag", "--circuit", strategy, formula], "--only, --block and --format do not go with it"),
+        ("a format", [*words, "--format", "aag", "--circuit", strategy, formula], "--only, --block, --only-free and --format do not go with it"),
     ):
         ended = tool("explain-strategy", *options)
         expect(f"the run of a strategy: {name}", ended.returncode == 2 and wanted in ended.stderr, ended)
