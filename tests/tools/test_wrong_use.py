@@ -492,7 +492,7 @@ def main():
     try_old_systems(program)
     try_types()
     try_layout()
-    return finish(1279)
+    return finish(1320)
 
 
 if __name__ == "__main__":
