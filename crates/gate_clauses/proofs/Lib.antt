@@ -7,3 +7,4 @@ pub mod Greatest
 pub mod Encoded
 pub mod Closed
 pub mod Steps
+pub mod Accepted

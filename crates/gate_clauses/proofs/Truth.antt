@@ -53,11 +53,11 @@ leaf_sets ((q, w) ∷ ps) s t (inr below) v (inr h) = leaf_sets ps (negative w �
 
 -- ---- the variables of the formula in clauses
 
-gate_variables : (gates : List (ℕ × Gate)) → variables (gate_pairs gates) ≡ gate_names gates
+pub gate_variables : (gates : List (ℕ × Gate)) → variables (gate_pairs gates) ≡ gate_names gates
 gate_variables [] = refl
 gate_variables (g ∷ gates) = ap (λ (vs : List ℕ). g.0 ∷ vs) (gate_variables gates)
 
-variables_joined : (ps rest : List (Quantifier × ℕ)) → variables (ps ++ rest) ≡ variables ps ++ variables rest
+pub variables_joined : (ps rest : List (Quantifier × ℕ)) → variables (ps ++ rest) ≡ variables ps ++ variables rest
 variables_joined [] rest = refl
 variables_joined (p ∷ ps) rest = ap (λ (vs : List ℕ). p.1 ∷ vs) (variables_joined ps rest)
 

@@ -1,8 +1,10 @@
 //! The clauses of a whole formula of gates.
 
-ghost use Rattle.std.specs.Prelude.{◌≡◌, [], ◌∷◌, ◌++◌, IfOk, OnOk};
-ghost use Rattle.qbf_core.specs.Blocks.{pairs};
-ghost use Rattle.qbf_gates.specs.Gates.{names};
+ghost use Rattle.std.specs.Prelude.{◌≡◌, ◌<◌, [], ◌∷◌, ◌++◌, length, nat_eq, IfOk, OnOk};
+ghost use Rattle.std.specs.List.{IsDistinct};
+ghost use Rattle.std.specs.Result.{IsErrOf};
+ghost use Rattle.qbf_core.specs.Blocks.{AreBound, IsBound, pairs, variables};
+ghost use Rattle.qbf_gates.specs.Gates.{IsWellFormed, StandInOrder, gate_names, inputs_of, names};
 ghost use Rattle.qbf_gates.specs.Kept.{gate_of};
 ghost use Rattle.gate_clauses.specs.Begun.{greatest};
 ghost use Rattle.gate_clauses.specs.Encoding.{clauses_of, encoding, gate_clauses, gate_pairs};
@@ -19,6 +21,10 @@ fn bind_all(encoder: &mut Encoder, prefix: &Prefix) -> Result<(), EncodingFault>
     ensures bound { OnOk result
         (pairs encoder.new.blocks ≡ pairs encoder.old.blocks ++ pairs prefix.now) }
     ensures clauses { encoder.new.clauses ≡ encoder.old.clauses }
+    ensures given { IsErrOf result EncodingFault.Given → IsDistinct nat_eq
+        (variables (pairs encoder.old.blocks) ++ variables (pairs prefix.now)) → ⊥ }
+    ensures unknown { IsErrOf result EncodingFault.Unknown → ⊥ }
+    ensures short { IsErrOf result EncodingFault.TooLong → ⊥ }
 {
     for i in 0..prefix.len() {
         let (quantifier, var) = prefix.pair(i);
@@ -37,6 +43,10 @@ fn put_gate(
     ensures bound { IfOk result (λ e. pairs e.blocks ≡ pairs encoder.blocks ++ (Exists, var) ∷ []) }
     ensures put { IfOk result (λ e. e.clauses
         ≡ encoder.clauses ++ clauses_of var (gate_of kind inputs.now)) }
+    ensures given { IsErrOf result EncodingFault.Given → IsBound encoder.blocks var }
+    ensures unknown { IsErrOf result EncodingFault.Unknown
+        → AreBound encoder.blocks (inputs_of (gate_of kind inputs.now)) → ⊥ }
+    ensures short { IsErrOf result EncodingFault.TooLong → ⊥ }
 {
     match kind {
         GateKind::Conjunction => encoder.and(var, inputs),
@@ -57,6 +67,11 @@ fn put_gates(encoder: Encoder, gates: &Gates) -> Result<Encoder, EncodingFault>
     ensures bound { IfOk result (λ e. pairs e.blocks
         ≡ pairs encoder.blocks ++ gate_pairs gates.now.gates) }
     ensures put { IfOk result (λ e. e.clauses ≡ encoder.clauses ++ gate_clauses gates.now.gates) }
+    ensures given { IsErrOf result EncodingFault.Given → IsDistinct nat_eq
+        (variables (pairs encoder.blocks) ++ gate_names gates.now.gates) → ⊥ }
+    ensures unknown { IsErrOf result EncodingFault.Unknown
+        → StandInOrder (variables (pairs encoder.blocks)) gates.now.gates → ⊥ }
+    ensures short { IsErrOf result EncodingFault.TooLong → ⊥ }
 {
     let mut made = encoder;
     for i in 0..gates.len() {
@@ -75,7 +90,11 @@ fn put_gates(encoder: Encoder, gates: &Gates) -> Result<Encoder, EncodingFault>
 /// given before it, `TooLong` if there are more clauses than QDIMACS can count, and `NoMemory` if
 /// an allocation fails.
 pub fn formula_in_clauses(alloc: Global, formula: &GateFormula) -> Result<Formula, EncodingFault>
-    ensures { IfOk result (λ f. f ≡ encoding (greatest (names formula.now)) formula.now) }
+    ensures made { IfOk result (λ f. f ≡ encoding (greatest (names formula.now)) formula.now) }
+    ensures given { IsErrOf result EncodingFault.Given → IsWellFormed formula.now → ⊥ }
+    ensures unknown { IsErrOf result EncodingFault.Unknown → IsWellFormed formula.now → ⊥ }
+    ensures long { IsErrOf result EncodingFault.TooLong → 2147483647
+        < length (encoding (greatest (names formula.now)) formula.now).clauses }
 {
     let gates = formula.gates();
     let mut encoder = Encoder::new(alloc);
