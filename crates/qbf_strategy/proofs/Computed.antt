@@ -46,7 +46,7 @@ module _ (t : List Literal) (clean : IsClean t) where
 
 -- ---- the variables of the two players
 
-in_part : (q : Quantifier) (ps : List (Quantifier × ℕ)) (v : ℕ) → v ∈ variables_of q ps
+pub in_part : (q : Quantifier) (ps : List (Quantifier × ℕ)) (v : ℕ) → v ∈ variables_of q ps
     → (p : Quantifier) × ((p, v) ∈ ps) × (is_quantifier p q ≡ true)
 in_part q [] v h = absurd h
 in_part q ((p, u) ∷ ps) v h = elim (cases_Bool (is_quantifier p q)) [
@@ -57,7 +57,7 @@ in_part q ((p, u) ∷ ps) v h = elim (cases_Bool (is_quantifier p q)) [
   | inr isnt ↦ (let k : v ∈ variables_of q ps = rw isnt at h in let w = in_part q ps v k in (w.0, inr w.1, w.2))
 ]
 
-part_of : (q p : Quantifier) (ps : List (Quantifier × ℕ)) (v : ℕ) → (p, v) ∈ ps → is_quantifier p q ≡ true → v ∈ variables_of q ps
+pub part_of : (q p : Quantifier) (ps : List (Quantifier × ℕ)) (v : ℕ) → (p, v) ∈ ps → is_quantifier p q ≡ true → v ∈ variables_of q ps
 part_of q p [] v h is = absurd h
 part_of q p ((r, u) ∷ ps) v (inl e) is =
     let var_of : Quantifier × ℕ → ℕ = λ a. a.1 in
@@ -81,7 +81,7 @@ distinct_insert (x ∷ a) b v d out = (
 )
 
 -- a quantifier is the player's or the other's
-whose : (mine p : Quantifier) → ((is_quantifier p mine ≡ true) × (is_quantifier p (opponent mine) ≡ false))
+pub whose : (mine p : Quantifier) → ((is_quantifier p mine ≡ true) × (is_quantifier p (opponent mine) ≡ false))
     ⊎ ((is_quantifier p mine ≡ false) × (is_quantifier p (opponent mine) ≡ true))
 whose All All = inl (refl, refl)
 whose All Exists = inr (refl, refl)
@@ -95,7 +95,7 @@ module _ (mine : Quantifier) where
     | inr k ↦ (let w = in_part (opponent mine) ps v k in pair_var ps w.0 v w.1)
   ]
 
-  parts_distinct : (ps : List (Quantifier × ℕ)) → Distinct (variables ps)
+  pub parts_distinct : (ps : List (Quantifier × ℕ)) → Distinct (variables ps)
       → Distinct (variables_of mine ps ++ variables_of (opponent mine) ps)
   parts_distinct [] d = tt
   parts_distinct ((p, v) ∷ ps) d =
@@ -108,7 +108,7 @@ module _ (mine : Quantifier) where
 
 -- ---- literals of distinct variables
 
-abbrev vars_of : List Literal → List ℕ
+abbrev pub vars_of : List Literal → List ℕ
 vars_of ls = map (λ l. l.var) ls
 
 var_in : (ls : List Literal) (l : Literal) → l ∈ ls → l.var ∈ vars_of ls
@@ -125,31 +125,31 @@ only_of_var (x ∷ ls) d l m (inr a) (inl b) e =
     absurd (d.0 (subst (λ n. n ∈ vars_of ls) (e ∙ ap (λ (y : Literal). y.var) b) (var_in ls l a)))
 only_of_var (x ∷ ls) d l m (inr a) (inr b) e = only_of_var ls d.1 l m a b e
 
-distinct_clean : (ls : List Literal) → Distinct (vars_of ls) → IsClean ls
+pub distinct_clean : (ls : List Literal) → Distinct (vars_of ls) → IsClean ls
 distinct_clean ls d l h k = negated_differs l (only_of_var ls d (negated l) l k h refl)
 
-vars_append : (a b : List Literal) → vars_of (a ++ b) ≡ vars_of a ++ vars_of b
+pub vars_append : (a b : List Literal) → vars_of (a ++ b) ≡ vars_of a ++ vars_of b
 vars_append [] b = refl
 vars_append (x ∷ a) b = ap (λ vs. x.var ∷ vs) (vars_append a b)
 
-vars_inputs : (n : ℕ) (vs : List ℕ) (run : ℕ → Bool) → vars_of (input_literals n vs run) ≡ vs
+pub vars_inputs : (n : ℕ) (vs : List ℕ) (run : ℕ → Bool) → vars_of (input_literals n vs run) ≡ vs
 vars_inputs n [] run = refl
 vars_inputs n (v ∷ vs) run = ap (λ ws. v ∷ ws) (vars_inputs (suc n) vs run)
 
-abbrev output_literals : List (ℕ × Wire) → (ℕ → Bool) → List Literal
+abbrev pub output_literals : List (ℕ × Wire) → (ℕ → Bool) → List Literal
 output_literals outs run = map (λ o. literal_of o.0 (value_at run o.1)) outs
 
-vars_outputs : (outs : List (ℕ × Wire)) (run : ℕ → Bool) → vars_of (output_literals outs run) ≡ map (λ o. o.0) outs
+pub vars_outputs : (outs : List (ℕ × Wire)) (run : ℕ → Bool) → vars_of (output_literals outs run) ≡ map (λ o. o.0) outs
 vars_outputs [] run = refl
 vars_outputs (o ∷ outs) run = ap (λ ws. o.0 ∷ ws) (vars_outputs outs run)
 
-output_set : (outs : List (ℕ × Wire)) (run : ℕ → Bool) (o : ℕ × Wire) → o ∈ outs
+pub output_set : (outs : List (ℕ × Wire)) (run : ℕ → Bool) (o : ℕ × Wire) → o ∈ outs
     → literal_of o.0 (value_at run o.1) ∈ output_literals outs run
 output_set [] run o h = absurd h
 output_set (p ∷ outs) run o (inl e) = inl (let g : ℕ × Wire → Literal = λ q. literal_of q.0 (value_at run q.1) in ap g e)
 output_set (p ∷ outs) run o (inr h) = inr (output_set outs run o h)
 
-output_named : (outs : List (ℕ × Wire)) (v : ℕ) → v ∈ map (λ o. o.0) outs → (o : ℕ × Wire) × (o ∈ outs) × (o.0 ≡ v)
+pub output_named : (outs : List (ℕ × Wire)) (v : ℕ) → v ∈ map (λ o. o.0) outs → (o : ℕ × Wire) × (o ∈ outs) × (o.0 ≡ v)
 output_named [] v h = absurd h
 output_named (p ∷ outs) v (inl e) = (p, inl refl, sym e)
 output_named (p ∷ outs) v (inr h) = let w = output_named outs v h in (w.0, inr w.1, w.2)
@@ -216,17 +216,17 @@ input_from n (v ∷ vs) run (suc i) u here =
     subst (λ m. literal_of u (run m) ∈ (literal_of v (run n) ∷ input_literals (suc n) vs run)) (sym k)
     (inr (input_from (suc n) vs run i u here))
 
-input_at : (vs : List ℕ) (run : ℕ → Bool) (i u : ℕ) → slice_get vs i ≡ Some u → literal_of u (run (suc i)) ∈ input_literals 1 vs run
+pub input_at : (vs : List ℕ) (run : ℕ → Bool) (i u : ℕ) → slice_get vs i ≡ Some u → literal_of u (run (suc i)) ∈ input_literals 1 vs run
 input_at vs run i u here =
     let k : 1 + i ≡ suc i = omega arith in
     subst (λ m. literal_of u (run m) ∈ input_literals 1 vs run) k (input_from 1 vs run i u here)
 
-name_in : (outs : List (ℕ × Wire)) (o : ℕ × Wire) → o ∈ outs → o.0 ∈ map (λ p. p.0) outs
+pub name_in : (outs : List (ℕ × Wire)) (o : ℕ × Wire) → o ∈ outs → o.0 ∈ map (λ p. p.0) outs
 name_in [] o h = absurd h
 name_in (p ∷ outs) o (inl e) = inl (let g : ℕ × Wire → ℕ = λ q. q.0 in ap g e)
 name_in (p ∷ outs) o (inr h) = inr (name_in outs o h)
 
-literal_sets : (t : List Literal) (v : ℕ) (b : Bool) → literal_of v b ∈ t → (positive v ∈ t) ⊎ (negative v ∈ t)
+pub literal_sets : (t : List Literal) (v : ℕ) (b : Bool) → literal_of v b ∈ t → (positive v ∈ t) ⊎ (negative v ∈ t)
 literal_sets t v true h = inl h
 literal_sets t v false h = inr h
 

@@ -13,3 +13,4 @@ pub mod GateCosts
 pub mod ReadyDecisions
 pub mod PathValues
 pub mod TrimmedCircuit
+pub mod SameWins

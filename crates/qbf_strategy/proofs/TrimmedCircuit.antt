@@ -15,7 +15,7 @@ use Rattle.qbf_strategy.specs.Winning.{input_literals, set_in_run}
 use Rattle.qbf_strategy.proofs.Computed.{exec, exec_below, exec_keeps}
 
 -- the outputs at one place
-record AtPlace (os ds : List (ℕ × Wire)) (d : ℕ × Wire) : Type 0 where
+pub record AtPlace (os ds : List (ℕ × Wire)) (d : ℕ × Wire) : Type 0 where
   pub one : ℕ × Wire
   pub in_it : one ∈ os
   pub name : d.0 ≡ one.0
@@ -28,7 +28,7 @@ head_same e = cc e
 tail_same : {X : Type 0} {x y : X} {xs ys : List X} → x ∷ xs ≡ y ∷ ys → xs ≡ ys
 tail_same e = cc e
 
-at_place : (os ds : List (ℕ × Wire)) (d : ℕ × Wire) → map (λ o. o.0) ds ≡ map (λ o. o.0) os → d ∈ ds → AtPlace os ds d
+pub at_place : (os ds : List (ℕ × Wire)) (d : ℕ × Wire) → map (λ o. o.0) ds ≡ map (λ o. o.0) os → d ∈ ds → AtPlace os ds d
 at_place os [] d e h = absurd h
 at_place [] (x ∷ ds) d e h = absurd (cc e)
 at_place (o ∷ os) (x ∷ ds) d e (inl is) = record {
@@ -46,7 +46,7 @@ at_place (o ∷ os) (x ∷ ds) d e (inr h) =
       value = λ run other same. there.value run other (tail_same same);
     }
 
-literals_same : (os ds : List (ℕ × Wire)) (run other : ℕ → Bool) → map (λ o. o.0) ds ≡ map (λ o. o.0) os
+pub literals_same : (os ds : List (ℕ × Wire)) (run other : ℕ → Bool) → map (λ o. o.0) ds ≡ map (λ o. o.0) os
     → map (λ o. value_at other o.1) ds ≡ map (λ o. value_at run o.1) os
     → map (λ o. literal_of o.0 (value_at run o.1)) os ≡ map (λ o. literal_of o.0 (value_at other o.1)) ds
 literals_same [] [] run other names values = refl
@@ -58,7 +58,7 @@ literals_same (o ∷ os) (d ∷ ds) run other names values =
     ∙ ap (λ (ls : List Literal). literal_of d.0 (value_at other d.1) ∷ ls)
     (literals_same os ds run other (tail_same names) (tail_same values)))
 
-inputs_same : (n : ℕ) (vs : List ℕ) (run other : ℕ → Bool) → ((k : ℕ) → n ≤ k → k < n + length vs → run k ≡ other k)
+pub inputs_same : (n : ℕ) (vs : List ℕ) (run other : ℕ → Bool) → ((k : ℕ) → n ≤ k → k < n + length vs → run k ≡ other k)
     → input_literals n vs run ≡ input_literals n vs other
 inputs_same n [] run other same = refl
 inputs_same n (v ∷ vs) run other same =

@@ -1,0 +1,6 @@
+pub mod Places
+pub mod Parts
+pub mod Cut
+pub mod Winners
+pub mod Falsified
+pub mod Shown
