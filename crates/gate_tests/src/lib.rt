@@ -7,3 +7,5 @@ mod clauses;
 mod damaged;
 #[cfg(test)]
 mod texts;
+#[cfg(test)]
+mod verdicts;

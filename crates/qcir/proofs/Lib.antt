@@ -9,3 +9,4 @@ pub mod WrittenParts
 pub mod WrittenTokens
 pub mod WrittenStatements
 pub mod Counted
+pub mod Devices

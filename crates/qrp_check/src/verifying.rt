@@ -107,7 +107,10 @@ pub fn verify<A: Source, B: Source>(
 }
 
 /// The truth that the trace at a source shows of a formula that was read.
-fn find_truth_of<B: Source>(
+///
+/// # Errors
+/// As of `verify`, but for the formula's.
+pub fn find_truth_of<B: Source>(
     alloc: Global,
     formula: &Formula,
     trace: &mut B,
