@@ -1,5 +1,5 @@
 -- The words of the command line.
-use Rattle.std.specs.Prelude.{◌≡◌, ℕ, Bool, true, false, List, [], ◌∷◌, ◌⊎◌, Some, codes}
+use Rattle.std.specs.Prelude.{◌≡◌, ◌+◌, ℕ, Bool, true, false, List, [], ◌∷◌, ◌⊎◌, Some, codes}
 use Rattle.qrp_program.specs.Words.{Request, any_pivot, plain}
 use Rattle.qrp_rules.specs.declared.rules.Rules.{Rules}
 use Rattle.qrp_strategy.specs.declared.task.Task.{Task}
@@ -10,7 +10,7 @@ IsFlag word = (word ≡ codes "--qu") ⊎ (word ≡ codes "--binary")
 
 -- what is asked for with these rules and this format, if the files stand from a place on
 abbrev pub files_at : Rules → (binary : Bool) → ℕ → Request Task
-files_at rules binary i = record { job = record { rules = rules; binary = binary }; formula = i; trace = Some (suc i) }
+files_at rules binary i = record { job = record { rules = rules; binary = binary }; formula = i; trace = Some (i + 1) }
 
 -- The words after the program's name are two files, after flags each of which is there at most once. The first of two words is not a flag;
 -- else any word may name a file.
