@@ -107,16 +107,12 @@ class Files:
             yield from self.module(crate, "src", parts[1:], ".rt")
             return
         for file in self.module(crate, kind, parts, ".antt"):
-            passed = PASSED_ON.findall(self.texts[file])
             wanted = {name.split(" as ")[0].strip() for name in names.split(",")}
-            others = [
-                (*origin, ",".join(same))
-                for *origin, given in passed
-                if origin[0] in self.parts and (same := wanted & {name.strip() for name in given.split(",")})
-            ]
-            for other_crate, other_kind, other_path, same in others:
-                yield from self.of_terms(other_crate, other_kind, other_path, same)
-                wanted -= set(same.split(","))
+            for other, part, module, given in PASSED_ON.findall(self.texts[file]):
+                same = wanted & {name.strip() for name in given.split(",")} if other in self.parts else set()
+                if same:
+                    yield from self.of_terms(other, part, module, ",".join(sorted(same)))
+                wanted -= same
             if wanted:
                 yield file
 
