@@ -114,6 +114,7 @@ LEFT = {
     ("README.md", "#include"): "tests/packaging/test-install compiles it",
     ("README.md", "export PKG_CONFIG_PATH"): "tests/packaging/test-install runs it with this program",
     ("README.md", "import qrp_check"): "tests/packaging/test-install runs it",
+    ("docs/ARCHITECTURE.md", "programs    qrp_cmd"): "a picture",
     ("docs/ARCHITECTURE.md", "file "): "a picture",
     ("docs/ARCHITECTURE.md", "check_marked "): "a picture",
     ("docs/BENCHMARKS.md", "bench/measure"): "it takes minutes",
