@@ -669,6 +669,20 @@ MISTAKES = [
         ["in another order", "as after `sort`"],
         ["messages", "missing"],
     ),
+    (
+        "lines sorted by number",
+        GOOD,
+        b"p qrp 1 3\ne 1 0\nr unsat\n1 1 0 0\n2 -1 0 0\n3 0 1 2 0\n",
+        ["Steps come after the line `r unsat`, and are not read", "as after `sort`"],
+        ["let the solver finish"],
+    ),
+    (
+        "lines sorted by number, with sets",
+        b"p cnf 2 1\ne 2 0\na 1 0\n1 2 0\n",
+        b"p qrp 2 3\na 1 0\ne 2 0\nr UNSAT\n1 1 2 0 0\n",
+        ["further out than 1 in block 2", "Steps come after the line `r UNSAT`, and are not read", "as after `sort`"],
+        ["another one"],
+    ),
     ("a time in a line", GOOD, TRACE.replace(b"2 -1", b"[0.5s] 2 -1"), ["take out what a log puts before each line"], ["damaged"]),
     ("a tar archive", GOOD, b"f.qrp".ljust(257, b"\0") + b"ustar\x0000" + bytes(200), ["It is a tar archive", "`tar xf FILE`"], ["DRAT", *GIVE]),
     (

@@ -11,6 +11,7 @@ from qrptools.command import as_called
 
 FEW_ZEROS = "a line has a 0 too few or too many"
 CORRECT_ZEROS = "correct the zeros of that line: a set has one, at its end, and a step two, after its literals and at its end"
+OTHER_ORDER = "the lines are in another order than the solver wrote them, as after `sort`: give the trace as it was written, or have it written again"
 ROWS: list[tuple[str, Optional[str], str, str]] = [
     ("F2", None, "the header is wrong", "give a formula in QDIMACS, which begins with `p cnf VARIABLES CLAUSES`"),
     ("F3", None, "a word that is not allowed there", "take the word out, or give a formula in QDIMACS"),
@@ -75,7 +76,7 @@ ROWS: list[tuple[str, Optional[str], str, str]] = [
         "P3",
         "order",
         "a quantifier set after steps",
-        "the lines are in another order than the solver wrote them, as after `sort`: give the trace as it was written, or have it written again",
+        OTHER_ORDER,
     ),
     ("P3", "stamps", "a time or a bracket before the numbers of a line", "take out what a log puts before each line: `cut` and `sed` do that"),
     (
@@ -122,12 +123,14 @@ ROWS: list[tuple[str, Optional[str], str, str]] = [
     ("C1", None, "the trace names a variable that the formula does not bind", "give the formula that the solver read: this is likely another one"),
     ("C2", None, "a variable has the other quantifier in the formula", "give the formula that the solver read: this is likely another one"),
     ("C3", None, "the variables are in another order in the formula", "give the formula that the solver read: this is likely another one"),
+    ("C3", "order", "the same, and steps come after the result", OTHER_ORDER),
     (
         "C4",
         None,
         "no step is empty, so nothing is proved",
         "let the solver finish, and leave out `--no-cdcl` and `--no-sdcl`: it has to learn clauses and cubes. Or the last step was lost",
     ),
+    ("C4", "order", "steps come after the result", OTHER_ORDER),
     ("S1", "long", "both signs of a variable, from the antecedents", "leave out the solver's long-distance resolution (`--long-dist-res`)"),
     (
         "S1",

@@ -15,7 +15,17 @@ from qrptools.command import Ends, finding, not_read, read_file, unusable
 from qrptools.formula import Formula
 from qrptools.explaining.looks import NO_TEXTS, looks
 from qrptools.names import Names
-from qrptools.explaining.refusals import empty_clause, explain_no_goal, explain_sets, explain_text, free_variables, likely_cause, listed, marked_line
+from qrptools.explaining.refusals import (
+    empty_clause,
+    explain_no_goal,
+    explain_sets,
+    explain_text,
+    free_variables,
+    likely_cause,
+    listed,
+    marked_line,
+    other_order,
+)
 from qrptools.explaining.show import Judged, judged_step, lines_of, reasons
 from qrptools.step_rules import SIDES
 from qrptools.steps import Trace
@@ -107,19 +117,24 @@ class Explainer:
         return explanation_of_step(formula, trace, judged, self.arguments.names)
 
     def set(self, fault: str, variable: str) -> Explanation:
-        explained = explain_sets(Formula(self.formula()), Trace(self.trace()))
+        data = self.trace()
+        explained = explain_sets(Formula(self.formula()), Trace(data))
         if explained is None:
             raise disagree(f"{fault} of {variable}", "no fault")
         found, named, sentences = explained
         if (found, str(named.variable)) != (fault, variable):
             raise disagree(f"{fault} of {variable}", f"{found} of {named.variable}")
-        return Explanation(sentences, fault=fault, file="trace", line=named.line, variable=named.variable, topic=(fault, None, None))
+        order = other_order(data) if fault == "C3" else []
+        topic = (fault, "order" if order else None, None)
+        return Explanation(sentences + order, fault=fault, file="trace", line=named.line, variable=named.variable, topic=topic)
 
     def no_goal(self, fault: str) -> Explanation:
-        has_none, sentences = explain_no_goal(Trace(self.trace()))
+        data = self.trace()
+        has_none, sentences = explain_no_goal(Trace(data))
         if not has_none:
             raise disagree(fault, "an empty step")
-        return Explanation(sentences, fault=fault, file="trace", topic=(fault, None, None))
+        order = other_order(data)
+        return Explanation(sentences + order, fault=fault, file="trace", topic=(fault, "order" if order else None, None))
 
     def text(self, kind: str, fault: str, line: str) -> Explanation:
         data = self.formula() if kind == "formula" else self.trace()

@@ -213,12 +213,13 @@ FIRST_WORDS = {
 }
 
 
+OTHER_LINES = "the lines seem to be in another order than they were written"
 # Why a quantifier set comes too late, by its cause.
 LATE_SETS = {
     "prenex": "The clauses before it are closed: so the formula is not prenex, with all quantifiers before the clauses.",
     "header": "The header has more than two numbers, and what follows them is read as a clause.",
     "zero": "An empty clause comes before it: a 0 too many closes it.",
-    "order": "The steps before it are closed: the lines seem to be in another order than they were written.",
+    "order": f"The steps before it are closed: {OTHER_LINES}.",
 }
 
 
@@ -378,6 +379,16 @@ def wrong_result(fault: Fault, _data: bytes) -> list[str]:
     if rest[:2] == [b"s", b"cnf"]:
         sentences.append("The solver wrote its answer in the form of QDIMACS, as DepQBF does with --qdo.")
     return sentences
+
+
+AFTER_RESULT = re.compile(rb"^[ \t]*r[ \t]+((?i:sat|unsat))[ \t\r]*\n[ \t]*[0-9]", re.MULTILINE)
+
+
+def other_order(data: bytes) -> list[str]:
+    """A sentence on steps that come after the result, if there are some."""
+    found = AFTER_RESULT.search(data)
+    result = found and found[1].decode()
+    return [f"Steps come after the line `r {result}`, and are not read: {OTHER_LINES}."] if result else []
 
 
 Failing = tuple[str, SetVariable, Optional[SetVariable]]  # a fault of a variable, and the variable of the innermost block before it
