@@ -50,9 +50,11 @@ def literals(term: Term) -> Iterator[int]:
         yield term
 
 
-def place(term: Term) -> tuple[bool, int]:
-    """Where a term stands in an expression: literals come first, and then what begins with the least literal."""
-    return isinstance(term, Node), next(literals(term))
+def first_of(term: Term) -> int:
+    """The first literal of a term."""
+    while isinstance(term, Node):
+        term = term.terms[0]
+    return term
 
 
 def negated(term: Term) -> Term:
@@ -70,11 +72,20 @@ def parts(term: Term, is_and: bool = True) -> tuple[Term, ...]:
 
 
 def joined(terms: Iterable[Term], is_and: bool = True) -> Term:
-    """The conjunction of some terms, or the disjunction."""
-    ordered = sorted(terms, key=place)
-    if len(ordered) < 2:
-        return ordered[0] if ordered else int(is_and)
-    return Node(is_and, tuple(ordered), sum(map(size, ordered)))
+    """The conjunction of some terms, or the disjunction: literals come first, and then what begins with the least literal."""
+    own, nodes = divided(terms)
+    if len(own) + len(nodes) < 2:
+        return next(iter(own + nodes), int(is_and))
+    return Node(is_and, (*sorted(own), *sorted(nodes, key=first_of)), len(own) + sum(map(size, nodes)))
+
+
+def divided(terms: Iterable[Term]) -> tuple[list[Term], list[Term]]:
+    """Those of some terms that are literals, and the others."""
+    own: list[Term] = []
+    nodes: list[Term] = []
+    for term in terms:
+        (nodes if isinstance(term, Node) else own).append(term)
+    return own, nodes
 
 
 def given(term: Term, known: set[int]) -> Term:
@@ -224,16 +235,23 @@ class Expressions:
 
     def may_follow(self, terms: list[int], nested: list[int]) -> bool:
         """Whether a conjunction of these literals, and of expressions with these variables, may have something that follows from the rest."""
-        known, touched, named = [literal & ~1 for literal in terms], nested, self.named
+        known = [literal & ~1 for literal in terms]
+        different, named = set(known), self.named
+        if len(different) < len(known) or FALSE in different or not different.isdisjoint(nested):
+            return True
+        if named.keys().isdisjoint(different):
+            return False
+        touched: list[int] = []
         for literal in terms:
-            if literal & ~1 in named:
-                is_and, own, variables = named[literal & ~1]
-                if is_and != bool(literal & 1):
-                    known += [part & ~1 for part in own]
-                else:
-                    touched = touched + variables
+            found = named.get(literal & ~1)
+            if found:
+                is_and, own, variables = found
+                if is_and == bool(literal & 1):
+                    touched += variables
+                elif own:
+                    known += variables[-len(own) :]
         different = set(known)
-        return len(different) < len(known) or not different.isdisjoint(touched) or FALSE in different
+        return len(different) < len(known) or not different.isdisjoint(touched) or not different.isdisjoint(nested)
 
     def simplify(self, gate: int) -> Term:
         """Makes the terms of a gate without a name, with those of the gates in it, and leaves out what follows."""
@@ -250,7 +268,9 @@ class Expressions:
 
     def simplified(self, terms: list[Term]) -> Term:
         """The conjunction of some terms, without what follows from the others."""
-        before: Optional[list[Term]] = None
+        own, nodes = divided(terms)
+        may_follow = self.may_follow(own, [literal & ~1 for node in nodes for literal in literals(node)])
+        before: Optional[list[Term]] = None if may_follow else terms
         while terms != before:
             before, known = terms, {TRUE, *(term for term in terms if not isinstance(term, Node))}
             implied = {other for literal in known for other in self.implied(literal)} - known
@@ -302,9 +322,9 @@ class Expressions:
             place = place_of(gate)
             if place is None:
                 continue
-            for literal in literals(nodes[gate]) if gate in nodes else both:
-                below = literal & ~1
-                used.append(below)
+            needed = [literal & ~1 for literal in literals(nodes[gate])] if gate in nodes else (both[0] & ~1, both[1] & ~1)
+            used += needed
+            for below in needed:
                 if place_of(below, place) >= place:
                     places[below] = place
         self.places, self.written = places, Counter(used)
@@ -388,4 +408,4 @@ class Text:
         if not isinstance(term, Node):
             return term, self.words[term]
         words = [f"({self.of_term(part)[1]})" if isinstance(part, Node) else self.words[part] for part in term.terms]
-        return next(literals(term)), self.signs[not term.is_and].join(words)
+        return first_of(term), self.signs[not term.is_and].join(words)
