@@ -75,16 +75,19 @@ def joined(terms: Iterable[Term], is_and: bool = True) -> Term:
     """The conjunction of some terms, or the disjunction: literals come first, and then what begins with the least literal."""
     own, nodes = divided(terms)
     if len(own) + len(nodes) < 2:
-        return next(iter(own + nodes), int(is_and))
+        return own[0] if own else nodes[0] if nodes else int(is_and)
     return Node(is_and, (*sorted(own), *sorted(nodes, key=first_of)), len(own) + sum(map(size, nodes)))
 
 
-def divided(terms: Iterable[Term]) -> tuple[list[Term], list[Term]]:
+def divided(terms: Iterable[Term]) -> tuple[list[int], list[Node]]:
     """Those of some terms that are literals, and the others."""
-    own: list[Term] = []
-    nodes: list[Term] = []
+    own: list[int] = []
+    nodes: list[Node] = []
     for term in terms:
-        (nodes if isinstance(term, Node) else own).append(term)
+        if isinstance(term, Node):
+            nodes.append(term)
+        else:
+            own.append(term)
     return own, nodes
 
 
@@ -241,6 +244,7 @@ class Expressions:
             return True
         if named.keys().isdisjoint(different):
             return False
+        implied: set[int] = set()
         touched: list[int] = []
         for literal in terms:
             found = named.get(literal & ~1)
@@ -248,14 +252,28 @@ class Expressions:
                 is_and, own, variables = found
                 if is_and == bool(literal & 1):
                     touched += variables
-                elif own:
-                    known += variables[-len(own) :]
-        different = set(known)
-        return len(different) < len(known) or not different.isdisjoint(touched) or not different.isdisjoint(nested)
+                else:
+                    implied.update([part ^ 1 for part in own] if literal & 1 else own)
+        if implied:
+            variables = [literal & ~1 for literal in implied]
+            before = len(different)
+            different.update(variables)
+            if len(different) < before + len(variables) or not different.isdisjoint(nested):
+                return True
+        return not different.isdisjoint(touched)
 
     def simplify(self, gate: int) -> Term:
         """Makes the terms of a gate without a name, with those of the gates in it, and leaves out what follows."""
-        terms = dict.fromkeys(part for literal in self.gates[gate] for part in parts(self.simple(literal)))
+        terms: dict[Term, None] = {}
+        gates, sizes, nodes, stack = self.gates, self.sizes, self.nodes, [*reversed(self.gates[gate])]
+        while stack:
+            literal = stack.pop()
+            if literal & ~1 not in sizes:
+                terms[literal] = None
+            elif literal & 1 or literal in nodes:
+                terms.update(dict.fromkeys(parts(self.simple(literal))))
+            else:
+                stack += reversed(gates[literal])
         self.nodes[gate] = self.simplified(list(terms))
         return self.nodes[gate]
 
@@ -268,8 +286,8 @@ class Expressions:
 
     def simplified(self, terms: list[Term]) -> Term:
         """The conjunction of some terms, without what follows from the others."""
-        own, nodes = divided(terms)
-        may_follow = self.may_follow(own, [literal & ~1 for node in nodes for literal in literals(node)])
+        own, others = divided(terms)
+        may_follow = self.may_follow(own, [literal & ~1 for node in others for literal in literals(node)])
         before: Optional[list[Term]] = None if may_follow else terms
         while terms != before:
             before, known = terms, {TRUE, *(term for term in terms if not isinstance(term, Node))}
