@@ -1,8 +1,8 @@
 """Tests tools/from-aiger. usage: tests/tools/test_from_aiger.py PROGRAM ..; tests/tools/test-tools calls it.
 
 Random circuits are written as ASCII and as binary AIGER. What their formulas say is compared with what a simulation of the circuit says of all
-values of the inputs, for random patterns, roles of constraints and choices of what is asked; and the names that the gates have with the values
-that the simulation gives to outputs and bad states. The simulation shares no code with the tool. Each formula is read by PROGRAM. Then come the
+values of the inputs, for random patterns, roles of constraints and choices of what is asked, and so are their formulas of gates; and the names
+that the gates have with the values that the simulation gives to outputs and bad states. The simulation shares no code with the tool. Each formula is read by PROGRAM. Then come the
 questions that look like others, files that are wrong, and circuits in Verilog, if yosys is there.
 """
 
@@ -28,6 +28,7 @@ from qrptools.circuits.aiger import read_circuit  # noqa: E402
 from qrptools.circuits.runs import Run  # noqa: E402
 from qrptools.formula import Formula  # noqa: E402
 from qrptools.names import Names  # noqa: E402
+from gate_formulas import GateFormula  # noqa: E402
 from random_proofs import truth  # noqa: E402
 
 TOOL = ROOT / "tools" / "from-aiger"
@@ -420,7 +421,37 @@ def try_circuit(seed, program, folder, seen):
         (folder / "formula").write_text(text)
         run = Run(read_circuit(str(path), path.read_bytes()), Names(str(folder / "names")), Formula(text.encode()), true)
         expect(f"circuit {seed}: a run", *run_is_right(run, question, demanded, used, given))
+    if status == 0:
+        expect(f"circuit {seed}: the formula of gates", *gates_are_right(question, demanded, answer, path, folder, given))
     path.unlink()
+
+
+def gates_are_right(question, demanded, answer, path, folder, given):
+    """Whether the formula of gates of a circuit says what the simulation says, and its names have the values of the simulation."""
+    roles = [word for place in range(len(question.sample.constraints)) for word in ("--demand" if place in demanded else "--assume", f"c{place}")]
+    status, text, said = called([*question.words, *roles, "--qcir", "--names", folder / "gates", path])
+    if status != 0:
+        return False, (status, said)
+    formula, sample = GateFormula(text), question.sample
+    numbers = [name for _, name in formula.prefix] + [name for name, _, _ in formula.gates]
+    named = {line.split()[1]: numbers[int(line.split()[0]) - 1] for line in (folder / "gates").read_text().splitlines()}
+    inputs = {}  # what the formula calls an input
+    for name, step in given:
+        if shown(name, step, question.steps) in named:
+            inputs[named[shown(name, step, question.steps)]] = given[name, step]
+    found = formula.values(inputs)
+    steps = list(sample.run(question.steps, question.value_of(given)))
+    literals = {sample.output_name(place): literal for place, literal in enumerate(sample.outputs)}
+    literals.update((f"{kind}{place}", literal) for kind, own in (("b", sample.bads), ("c", sample.constraints)) for place, literal in enumerate(own))
+    wrong = []
+    for name, own in named.items():
+        called_so = re.fullmatch(r"([a-z]+\d)(?:_of_step_(\d))?'*", name)
+        if own not in inputs and called_so and called_so[1] in literals:
+            wrong += [] if found[own] == steps[int(called_so[2] or 0)](literals[called_so[1]]) else [name]
+    wanted = [(quantifier, named.get(shown(name, step, question.steps))) for quantifier, name, step in question.prefix]
+    holds = sample.holds(question.steps, question.value_of(given), question.asked, demanded)
+    is_right = not wrong and blocks_in(formula.prefix) == blocks_in([row for row in wanted if row[1]]) and formula.holds(inputs) == holds
+    return is_right and formula.truth() == answer, (wrong, text, question.words, given, answer)
 
 
 def blocks_in(rows):
@@ -864,7 +895,7 @@ def main():
         for case in try_runs, try_replay, try_verilog:
             case(folder)
         try_lost_run(program, folder)
-    return finish(6611)
+    return finish(7611)
 
 
 if __name__ == "__main__":

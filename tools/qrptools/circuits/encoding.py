@@ -86,7 +86,7 @@ class Encoding:
             sets[-1][1].extend(self.variables[literal] for literal in literals)
         return sets
 
-    def text(self, comments: list[str]) -> Iterator[str]:
+    def lines(self, comments: list[str]) -> Iterator[str]:
         """The lines of the formula."""
         clauses = list(self.clauses())
         first = len(clauses) - len(self.unrolled.clauses) + 1
