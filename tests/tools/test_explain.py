@@ -21,7 +21,7 @@ ROOT = Path(__file__).resolve().parents[2]
 sys.path[:0] = [str(ROOT / "tests"), str(ROOT / "tools")]
 sys.dont_write_bytecode = True
 from damaged_pairs import damaged_pairs  # noqa: E402
-from expect import expect, finish  # noqa: E402
+from expect import expect, finish, skip  # noqa: E402
 from pages import blocks  # noqa: E402
 from qrptools.explaining import explanation  # noqa: E402
 from qrptools.explaining.advice import ADVICE, KINDS, NEXT, ROWS, advice_for  # noqa: E402
@@ -39,7 +39,7 @@ SENTENCES = {
     "bzip2 as trace": "It is compressed by bzip2",
     "xz as trace": "It is compressed by xz",
     "zstd as formula": "It is compressed by zstd",
-    "QCIR as formula": "It is a formula in QCIR",
+    "QCIR as trace": "It is a formula in QCIR",
     "AIGER as formula": "It is a circuit in AIGER",
     "UTF-16 as formula": "It is in UTF-16",
     "binary QRP as trace": "It is a trace in the binary form of QRP.",
@@ -126,7 +126,7 @@ def run(*words, program, **options):
 
 def fault_of(line):
     """The name of the fault of a line, as the tables of docs/REFUSED.md have it."""
-    found = re.search(r"\b([SFPC]\d+)\b", line)
+    found = re.search(r"\b([SFPCQ]\d+)\b", line)
     return found[1] if found else None
 
 
@@ -427,7 +427,7 @@ def try_step_names(program):
 def try_pages(program):
     """docs/REFUSED.md has the tables of the script, its commands print what the page says, and the conditions are those of docs/RULES.md."""
     text = (ROOT / "docs" / "REFUSED.md").read_text()
-    rows = re.findall(r"^\| ((?:[SFPC]\d+|DEVICE|NO MEMORY|USAGE)) \| (.*) \| (.*) \|$", text, re.MULTILINE)
+    rows = re.findall(r"^\| ((?:[SFPCQ]\d+|DEVICE|NO MEMORY|USAGE)) \| (.*) \| (.*) \|$", text, re.MULTILINE)
     expect("docs/REFUSED.md: the tables", sorted(rows) == sorted((fault, found, advice) for fault, _, found, advice in ROWS), rows)
     for title, wanted in ("What the file is | What you can do", [row[1:] for row in KINDS]), ("Line | What you can do next", NEXT):
         table = re.search(rf"^\| {re.escape(title)} \|\n\|---\|---\|\n((?:\|.*\n)+)", text, re.MULTILINE)[1]
@@ -703,11 +703,40 @@ MISTAKES = [
 ]
 
 
+# What is wrong with a formula of gates: its text, after the header if there is none; and what is said.
+GATES = [
+    ("of an odd version", b"#QCIR-15\nexists(a)\noutput(a)\n", ["The first line has to be '#QCIR-14'", "begin the text with `#QCIR-14`"]),
+    (
+        "with a gate of an odd kind",
+        b"exists(a)\noutput(g)\ng = nand(a, a)\n",
+        ["And, or, xor or ite is wanted.", "        ^^^^\n", "correct the line"],
+    ),
+    ("with a comma too many", b"exists(a, )\noutput(a)\n", ["The name of a variable is wanted.", "correct the line"]),
+    ("with a name given twice", b"exists(a)\nforall(b, a)\noutput(a)\n", ["The name 'a' is given already.", "another name"]),
+    (
+        "with a gate before its inputs",
+        b"exists(a)\noutput(g)\ng = and(a, -h)\nh = or(a)\n",
+        ["No line before gives the name 'h'.", "put the gate before"],
+    ),
+    ("with an output that is nowhere", b"exists(a)\noutput(g)\n", ["The text ends, and no line gives the output 'g'.", "put the gate before"]),
+    ("with free variables", b"free(a)\noutput(a)\n", ["Free variables: a closed formula has none.", "bind them in a set"]),
+    ("with a gate that has a quantifier", b"exists(a)\noutput(g)\ng = exists(b; a)\n", ["has to be prenex", "write the formula in prenex form"]),
+    ("with a choice of two", b"exists(a)\noutput(g)\ng = ite(a, a)\n", ["Ite has 3 inputs, and here it has 2.", "give `xor` two inputs"]),
+    ("without an output", b"exists(a)\n", ["The text ends, and no line 'output(..)' was there.", "give the whole file"]),
+]
+
+
+def gates_of_mistakes():
+    """The same as mistakes, if there is the program for them."""
+    for name, text, said in GATES if Path(os.environ["QRP_CMD"]).with_name("qrp_gates").is_file() else []:
+        yield f"a formula of gates {name}", text if text.startswith(b"#") else b"#QCIR-14\n" + text, TRACE, said, ["Traceback"]
+
+
 def try_mistakes(module):
     """What a user does wrong is said, and what is said is of use."""
     with tempfile.TemporaryDirectory() as folder:
         files = Path(folder) / "formula", Path(folder) / "trace"
-        for name, formula, trace, said, unsaid in MISTAKES:
+        for name, formula, trace, said, unsaid in [*MISTAKES, *gates_of_mistakes()]:
             files[0].write_bytes(formula)
             files[1].write_bytes(trace)
             status, out, err = explained(module, *files)
@@ -771,7 +800,10 @@ def main():
     try_damages(module, program, [(folder / "kbkf2.qdimacs", folder / "kbkf2.trad.qrp"), (folder / "adder1.qdimacs", folder / "adder1.lazy.qrp")])
     try_mistakes(module)
     try_devices(program, module)
-    expect("each advice is given", topics == set(ADVICE), set(ADVICE) ^ topics)
+    if not list(gates_of_mistakes()):
+        skip("what is wrong with formulas of gates", "there is no qrp_gates beside qrp_cmd")
+    wanted = {topic for topic in ADVICE if topic[0][0] != "Q" or list(gates_of_mistakes())}
+    expect("each advice is given", topics == wanted, wanted ^ topics)
     try_names(program)
     try_disagreement(program)
     try_words(program)

@@ -24,6 +24,7 @@ class Names:
         self.names: dict[int, str] = {}
         self.variables: dict[str, int] = {}
         self.buses: dict[str, dict[int, int]] = {}
+        self.gates: frozenset[int] = frozenset()  # the variables that are known to be gates
         lines = read_file(path).decode(errors="surrogateescape").split("\n") if path else []
         for place, line in enumerate(lines, 1):
             words = line.split()
@@ -53,7 +54,8 @@ class Names:
         return " ".join(("-" if literal < 0 else "") + self.name(abs(literal)) for literal in literals)
 
     def listed(self, variables: list[int]) -> str:
-        """Variables as text, of many the first."""
+        """Variables as text, without gates beside others, and of many the first."""
+        variables = [variable for variable in variables if variable not in self.gates] or variables
         rest = f" and {len(variables) - LISTED} more" if len(variables) > LISTED else ""
         return self.shown(variables[:LISTED]) + rest
 

@@ -1,4 +1,4 @@
-"""Finds and runs qrp_cmd and qrp_strategy. A part of tools/explain and the tools beside it."""
+"""Finds and runs qrp_cmd, qrp_strategy and qrp_gates. A part of tools/explain and the tools beside it."""
 
 import functools
 import os
@@ -15,16 +15,16 @@ from qrptools.command import PLACE, called_as, finding, not_read, not_written, s
 AS_THE_TRACE = "it needs up to the size of the trace"
 AS_THE_FORMULA = "it needs up to the size of the formula"
 
-CHECKER, STRATEGY = "qrp_cmd", "qrp_strategy"
-BUILT_BY = {CHECKER: "make", STRATEGY: "make"}
-WRITTEN = {CHECKER: ("the trimmed trace", AS_THE_TRACE), STRATEGY: ("the circuit", "")}  # and the room that it needs
+CHECKER, STRATEGY, GATES = "qrp_cmd", "qrp_strategy", "qrp_gates"
+BUILT_BY = {CHECKER: "make", STRATEGY: "make", GATES: "make"}
+WRITTEN = {CHECKER: ("the trimmed trace", AS_THE_TRACE), STRATEGY: ("the circuit", ""), GATES: ("the clauses", "")}  # and the room that it needs
 USAGE = 5  # the status of a program without arguments
 
 
 def find_program(name: str = CHECKER) -> str:
     """The program that QRP_CMD names, else bin/qrp_cmd above the tools, else the one beside this command, else the one on the PATH. If the
-    system is too old for that of a release, it is the static one beside it. qrp_strategy is looked for in the same way, by QRP_STRATEGY;
-    after that, and before the others, it is the one beside the program that QRP_CMD names."""
+    system is too old for that of a release, it is the static one beside it. qrp_strategy and qrp_gates are looked for in the same way, by QRP_STRATEGY
+    and QRP_GATES; after that, and before the others, it is the one beside the program that QRP_CMD names."""
     if os.environ.get(name.upper()):
         return os.environ[name.upper()]
     checker = os.environ.get(CHECKER.upper())

@@ -9,7 +9,7 @@ from contextlib import AbstractContextManager
 from typing import IO, Optional
 
 from qrptools.command import Ends, finding, started, unusable
-from qrptools.program import run_program, signal_of, why_not
+from qrptools.program import CHECKER, run_program, signal_of, why_not
 
 OPTIONS = ["--trace=qrp", "--dep-man=simple", "--no-qbce-dynamic"]
 MODES = {"traditional": "--traditional-qcdcl", "lazy": "--no-lazy-qpup"}
@@ -104,18 +104,18 @@ def ended_by(status: int) -> str:
     return f"was ended by {signal_of(status).rstrip(',')}" if status < 0 else f"status {status}"
 
 
-def verify(formula: str, trace: str, answer: str, named: str) -> None:
-    """Ends the command if the proof does not show the answer."""
-    line, status = run_program(["check", formula, trace])
+def verify(formula: str, trace: str, answer: str, named: str, program: str = CHECKER) -> None:
+    """Ends the command if the proof does not show the answer by this program."""
+    line, status = run_program(["check", formula, trace], name=program)
     if line == answer and status == 0:
         return
     if line.startswith("REFUSED trace "):
         refuse_full(trace, named)
     if line.startswith(("REFUSED ", "VERIFIED ")):
         raise finding(
-            f"the solver answers {answer.split()[-1]}, and qrp_cmd says {line} of its proof" + (f", with status {status}" if line == answer else "")
+            f"the solver answers {answer.split()[-1]}, and {program} says {line} of its proof" + (f", with status {status}" if line == answer else "")
         )
-    raise unusable(why_not(line, status, formula, trace))
+    raise unusable(why_not(line, status, formula, trace, program))
 
 
 def refuse_full(trace: str, named: str) -> None:

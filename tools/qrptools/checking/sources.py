@@ -92,6 +92,16 @@ class Source:
             raise unusable(f"{self.path} cannot be unpacked: {fault}")
         return data
 
+    def head(self, size: int) -> bytes:
+        """The first bytes, unpacked, of a file that can be read again; else none."""
+        if not self.is_regular:
+            return b""
+        if not self.unpacker:
+            with open(self.path, "rb") as file:
+                return file.read(size)
+        with self.opened():
+            return self.pipe.read(size) if self.pipe else b""
+
     def read(self) -> bytes:
         """All bytes, unpacked."""
         if not self.unpacker:

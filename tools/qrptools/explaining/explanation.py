@@ -15,12 +15,16 @@ from qrptools.command import Ends, finding, not_read, read_file, unusable
 from qrptools.formula import Formula
 from qrptools.explaining.looks import NO_TEXTS, looks
 from qrptools.names import Names
+from qrptools.program import CHECKER, GATES
+from qrptools.questions.files import QuestionNames, clauses_of
+from qrptools.questions.reader import WORD, QuestionFault, read_question
 from qrptools.explaining.refusals import (
     empty_clause,
     explain_no_goal,
     explain_sets,
     explain_text,
     free_variables,
+    SHOWN,
     likely_cause,
     listed,
     marked_line,
@@ -70,11 +74,22 @@ class Explainer:
     """What explains a line. The files are read once, by the first function; by the second one, if there is one, a trace is of which little is
     looked at."""
 
-    def __init__(self, arguments: argparse.Namespace, read: Callable[[str], bytes] = read_file, look: Optional[Callable[[str], Data]] = None) -> None:
-        self.arguments, self.read, self.look = arguments, read, look or read
+    def __init__(
+        self,
+        arguments: argparse.Namespace,
+        read: Callable[[str], bytes] = read_file,
+        look: Optional[Callable[[str], Data]] = None,
+        program: str = CHECKER,
+    ) -> None:
+        self.arguments, self.read, self.look, self.program = arguments, read, look or read, program
 
     def formula(self) -> bytes:
-        return self.read(self.arguments.formula)
+        """The formula in clauses. Those of a formula of gates are made, and then it has its names."""
+        data = self.read(self.arguments.formula)
+        if self.program == CHECKER:
+            return data
+        self.arguments.names = QuestionNames(read_question(data), None, self.arguments.names)
+        return clauses_of(data)
 
     def trace(self) -> bytes:
         return self.read(self.arguments.trace)
@@ -89,6 +104,7 @@ class Explainer:
             (r"REFUSED set (C\d) variable (\d+)", self.set),
             (r"REFUSED trace (C4)", self.no_goal),
             (r"REFUSED (formula|trace) ([FP]\d) line (\d+)", self.text),
+            (r"REFUSED formula (Q\d+) line (\d+)", self.question),
             (r"DEVICE (formula|trace)", self.device),
             (r"NO MEMORY", self.no_memory),
             (r"USAGE", self.usage),
@@ -99,11 +115,25 @@ class Explainer:
                 return method(*found.groups())
         return self.formatted() if not line and status == 0 else self.nothing(status)
 
+    def question(self, fault: str, line: str) -> Explanation:
+        """Why a formula of gates is refused."""
+        try:
+            read_question(self.read(self.arguments.formula))
+        except QuestionFault as found:
+            if str(found) == f"{fault} in line {line}":
+                return explanation_of_question(found)
+            raise disagree(f"{fault} in line {line}", str(found)) from found
+        raise disagree(f"{fault} in line {line}", "no fault")
+
     def verified(self, truth: str) -> Explanation:
         more = empty_clause(self.formula()) if truth == "false" else []
         return Explanation([f"The trace proves that the formula is {truth}. Nothing is refused.", *more], topic=("VERIFIED", truth, None))
 
     def formatted(self) -> Explanation:
+        if self.program == GATES:
+            question = read_question(self.read(self.arguments.formula))
+            sizes = f"it binds {len(question.places)} variables, and has {len(question.gates)} gates"
+            return Explanation([f"The formula is closed and has no fault: {sizes}."])
         data = self.formula()
         formula = Formula(data)
         found = f"The formula is closed and has no fault: it binds {len(formula.places)} variables, and has {formula.count} clauses."
@@ -114,19 +144,27 @@ class Explainer:
         judged = judged_step(formula, trace, self.arguments.qu, int(number), True)
         if judged is None or judged.finding.fault != fault:
             raise disagree(fault, judged.finding.fault if judged else "no such step")
-        return explanation_of_step(formula, trace, judged, self.arguments.names)
+        return self.about_clauses(explanation_of_step(formula, trace, judged, self.arguments.names))
+
+    def about_clauses(self, found: Explanation) -> Explanation:
+        """The same with a sentence on the clauses, if they were made of gates."""
+        if self.program == GATES:
+            said = "The formula has gates: its clauses and their lines are those that `qrp_gates clauses FORMULA` writes."
+            found.found, found.printed = [*found.found, said], [*found.printed, said]
+        return found
 
     def set(self, fault: str, variable: str) -> Explanation:
         data = self.trace()
         explained = explain_sets(Formula(self.formula()), Trace(data))
         if explained is None:
             raise disagree(f"{fault} of {variable}", "no fault")
-        found, named, sentences = explained
-        if (found, str(named.variable)) != (fault, variable):
-            raise disagree(f"{fault} of {variable}", f"{found} of {named.variable}")
+        first, named, sentences = explained
+        if (first, str(named.variable)) != (fault, variable):
+            raise disagree(f"{fault} of {variable}", f"{first} of {named.variable}")
         order = other_order(data) if fault == "C3" else []
         topic = (fault, "order" if order else None, None)
-        return Explanation(sentences + order, fault=fault, file="trace", line=named.line, variable=named.variable, topic=topic)
+        found = Explanation(sentences + order, fault=fault, file="trace", line=named.line, variable=named.variable, topic=topic)
+        return self.about_clauses(found)
 
     def no_goal(self, fault: str) -> Explanation:
         data = self.trace()
@@ -184,6 +222,19 @@ class Explainer:
         if status != -signal.SIGKILL:
             return Explanation([*found, "This should not happen."])
         return Explanation([*found, "The system sends this signal when it is out of memory."], topic=("NO MEMORY", None, None))
+
+
+def explanation_of_question(fault: QuestionFault) -> Explanation:
+    """The line of a formula of gates, with what is not allowed marked, and why."""
+    text = "".join(chr(byte) if 32 <= byte < 127 else "?" for byte in fault.text.rstrip(b"\r").replace(b"\t", b" "))
+    word = WORD.match(fault.text, fault.place) if fault.place is not None else None
+    first = 0 if fault.place is None else max(0, fault.place - SHOWN)
+    shown = f"    {'.. ' if first else ''}{text[first : first + 2 * SHOWN]}"
+    marked = [] if fault.place is None else [" " * (fault.place - first + (7 if first else 4)) + "^" * (len(word[0]) if word else 1)]
+    lines = [f"Line {fault.line} of the formula:", shown, *marked] if text else []
+    why = f"{fault.why[:1].upper()}{fault.why[1:]}."
+    column = None if fault.place is None else fault.place + 1
+    return Explanation([why], [*lines, why], (fault.name, None, None), fault=fault.name, file="formula", line=fault.line, column=column)
 
 
 def disagree(said: str, found: Optional[str]) -> Ends:

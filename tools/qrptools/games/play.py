@@ -5,13 +5,14 @@ A part of tools/play and tools/solve, which tell it in their own ways.
 
 from argparse import Namespace
 from collections.abc import Iterator
-from typing import NamedTuple, Optional
+from typing import NamedTuple, Optional, Union
 
 from qrptools.formula import ADJECTIVES, EXISTS
 from qrptools.games.game import LINES, Block, Checker, State
 from qrptools.games.gates import Gates
 from qrptools.games.replies import Replies, described
 from qrptools.names import Names
+from qrptools.questions.files import QuestionGates, QuestionNames
 
 
 class Move(NamedTuple):
@@ -74,7 +75,7 @@ class Play:
         given = self.replies.given.get(block.number, {})
         is_last = block.quantifier == EXISTS and len(self.state.blocks) == 1  # gates are innermost
         whole = not is_last or all(variable in given for variable in block.variables)
-        gates = None if whole else Gates(self.state.formula, block.variables)
+        gates = None if whole else self.gates_of(block)
         values = self.replies.values(block, gates.definitions if gates else {})
         if values is None:
             return None, []
@@ -82,6 +83,12 @@ class Play:
         if gates:
             gates.set_to(values, self.true)
         return [values[variable] for variable in block.variables], [variable for variable in block.variables if variable not in named]
+
+    def gates_of(self, block: Block) -> Union[Gates, QuestionGates]:
+        """The gates of the innermost block."""
+        if isinstance(self.names, QuestionNames):
+            return QuestionGates(self.names.question)
+        return Gates(self.state.formula, block.variables)
 
     def make(self, block: Block, values: list[int], are_open: list[int], gates: list[int]) -> None:
         """Makes a move and has the state after it verified."""
@@ -104,7 +111,7 @@ class Play:
     def lines_of_move(self, move: Move) -> Iterator[str]:
         """A move as text: who makes it, the literals, and the numbers of the buses."""
         who = f"by the {self.state.by}" if move.is_winners else "the other player"
-        gates, shown = set(move.gates), []
+        gates, shown = {abs(literal) for literal in move.values} & self.names.gates | set(move.gates), []
         literals = [literal for literal in move.values if abs(literal) not in gates]
         unnamed = [literal for literal in literals if abs(literal) not in self.names.names] if self.names.names else []
         if len(unnamed) > UNNAMED:

@@ -17,17 +17,18 @@ from qrptools.compressed import is_unpacked, unpacker_of
 from qrptools.signals import adopt_orphans, end_with_parent, held_signals, kill_group, take_signals
 
 TIMEOUT, DEVICE = 124, 3
+GATES, HEAD = b"#QCIR-", 64  # how a formula of gates begins, and bytes of a file in which that is seen
 LAST = 10.0  # seconds that what unpacks has to end after its reader
 NEVER = float("inf")
 LIMITED = ["/bin/sh", "-c", 'ulimit -v "$0" && exec "$@"']  # a limit of kilobytes, and the program in the place of the shell
 IGNORED = [signal.SIGPIPE, signal.SIGXFSZ]  # by Python
 
 
-def job(seconds: str, kilobytes: str, program: str, *fields: str) -> int:
+def job(seconds: str, kilobytes: str, program: str, gates: str, *fields: str) -> int:
     """Checks the proofs of some lines one after the other: an index, a formula, a trace and a flag each, separated by tabs. A process of
     this one does it. If that one is killed, the check that it made is lost, and another process goes on."""
     adopt_orphans()
-    checker = Checker(seconds, kilobytes, program)
+    checker = Checker(seconds, kilobytes, program, gates)
     words = "\t".join(fields).split("\t")
     lines = list(zip(*[iter(words)] * 4))
     while lines:
@@ -67,11 +68,12 @@ def end_orphan(process: bytes) -> None:
 
 
 class Checker:
-    """A program with the limits of each of its runs, 0 if there is none."""
+    """A program, and that for formulas of gates, with the limits of each of their runs, 0 if there is none."""
 
-    def __init__(self, seconds: str, kilobytes: str, program: str) -> None:
+    def __init__(self, seconds: str, kilobytes: str, program: str, gates: str) -> None:
         self.seconds = float(seconds)
-        self.words = [*([] if kilobytes == "0" else [*LIMITED, kilobytes]), program, "check"]
+        self.limits = [] if kilobytes == "0" else [*LIMITED, kilobytes]
+        self.program, self.gates = program, gates
 
     def check(self, fields: tuple[str, ...], told: int) -> None:
         """Runs the program once and prints the row: index, line, status, seconds, those of the processor, and peak memory. The number of its
@@ -80,7 +82,8 @@ class Checker:
         began = time.monotonic()
         until = began + self.seconds if self.seconds else NEVER
         sources = [Source(at_hand(formula)), Source(at_hand(trace))]
-        words = [*self.words, *([] if flag == "-" else [flag]), *(source.name for source in sources)]
+        program = self.gates if self.gates and sources[0].is_of_gates() else self.program
+        words = [*self.limits, program, "check", *([] if flag == "-" else [flag]), *(source.name for source in sources)]
         process, (reading, writing) = 0, os.pipe()
         try:
             with held_signals():
@@ -109,7 +112,7 @@ class Source:
     """A file of a check. One that is compressed is unpacked by a process into a pipe, which the program reads."""
 
     def __init__(self, path: str) -> None:
-        self.name, self.pipe, self.process, self.status = path, -1, 0, 0
+        self.path, self.name, self.pipe, self.process, self.status = path, path, -1, 0, 0
         self.unpacker = unpacker_of(path)
         if self.unpacker:
             reading, writing = os.pipe()
@@ -125,6 +128,27 @@ class Source:
             os.close(writing)
             os.set_inheritable(reading, True)
             self.name, self.pipe = f"/dev/fd/{reading}", reading
+
+    def is_of_gates(self) -> bool:
+        """Whether the file begins as a formula of gates does."""
+        return self.head().lstrip(b" \t\r").startswith(GATES)
+
+    def head(self) -> bytes:
+        """The first bytes of the file, unpacked; none if it cannot be read, or is no regular one."""
+        try:
+            if not os.path.isfile(self.path):
+                return b""
+            if self.unpacker:
+                import subprocess  # which takes as long as all other modules, and is seldom needed
+
+                with subprocess.Popen([self.unpacker, "-dc", self.path], stdout=subprocess.PIPE, stderr=subprocess.DEVNULL) as process:
+                    data = process.stdout.read(HEAD) if process.stdout else b""
+                    process.kill()
+                return data
+            with open(self.path, "rb") as file:
+                return file.read(HEAD)
+        except OSError:
+            return b""
 
     def close_pipe(self) -> None:
         """Lets the program be the only reader, so that what unpacks ends with it."""

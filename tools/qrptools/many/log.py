@@ -1,7 +1,7 @@
 """The log of tools/check-many: each row as soon as it is known. A part of tools/check-many.
 
 Its first line says what it is. Each line after it has the words of a line of the list, with the whole paths of the files, the size and the time
-of the formula, the trace and the program, and then the result. So a row counts for a line of the list only if all these agree, wherever that
+of the formula, the trace and both programs, and then the result. So a row counts for a line of the list only if all these agree, wherever that
 line stands now. A run holds a lock on the log as long as it may write there.
 """
 
@@ -18,7 +18,7 @@ from qrptools.command import Ends, not_read, unusable, version
 from qrptools.many.rows import Pair, Result, lines_of
 from qrptools.signals import held_signals
 
-TITLE = "# log of check-many, format 2, qrp_cmd "
+TITLE = "# log of check-many, format 3, qrp_cmd "
 Key = tuple[str, str, str, str, str]  # what a row is known by: the words, and the stamps
 FIGURE = re.compile(r"[0-9]+(\.[0-9]+)?")
 KEYS = 5  # fields of a key
@@ -45,17 +45,17 @@ def is_result(fields: list[str]) -> bool:
 
 
 class Log:
-    """The log of the checks by this program, by the name of its file, which is open as long as `opened` lasts."""
+    """The log of the checks by this program and that for formulas of gates, by the name of its file, which is open as long as `opened` lasts."""
 
     file: BinaryIO
 
-    def __init__(self, path: str, program: str) -> None:
-        self.path, self.program = path, program
+    def __init__(self, path: str, program: str, gates: str) -> None:
+        self.path, self.program, self.gates = path, program, gates
         self.known: defaultdict[Key, list[Result]] = defaultdict(list)  # by what their pairs are known by, in the order in which they came
 
     def key_of(self, pair: Pair) -> Key:
         """What a row is known by."""
-        stamps = ",".join(map(stamp, (pair.formula, pair.trace, self.program)))
+        stamps = ",".join(map(stamp, (pair.formula, pair.trace, self.program, self.gates)))
         return (pair.name, os.path.abspath(pair.formula), os.path.abspath(pair.trace), pair.flag, stamps)
 
     def results(self, pairs: list[Pair]) -> list[Optional[Result]]:

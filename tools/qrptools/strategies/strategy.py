@@ -80,7 +80,7 @@ def read_strategy(path: str, formula: Formula, names: Names) -> Strategy:
     """The strategy that a file has for a formula. The command ends if it is not one."""
     reader = Reader(path, read_file(path))
     reader.read_header()
-    refuse_counts(path, reader.counts, formula)
+    refuse_counts(path, reader.counts, formula, len(names.gates))
     circuit = reader.read()
     inputs = variables_of(path, circuit, "i", len(circuit.inputs), formula, names)
     outputs = variables_of(path, circuit, "o", len(circuit.outputs), formula, names)
@@ -105,13 +105,15 @@ def needed_gates(circuit: Circuit) -> dict[int, tuple[int, int]]:
     return circuit.gates if circuit.is_ordered and len(order) == len(circuit.gates) else {gate: circuit.gates[gate] for gate in order}
 
 
-def refuse_counts(path: str, counts: dict[str, int], formula: Formula) -> None:
-    """Ends the command if a circuit with these counts is not about the variables of the formula."""
+def refuse_counts(path: str, counts: dict[str, int], formula: Formula, gates: int) -> None:
+    """Ends the command if a circuit with these counts is not about the variables of the formula, or about those that are no gates, of which it
+    has so many."""
     other = next((word for letter, word in NO_STRATEGY.items() if counts[letter]), None)
     if other:
         raise finding(f"{path}: the circuit has {other}, and that of a strategy has none")
     players = [sum(place.quantifier == quantifier for place in formula.places.values()) for quantifier in (EXISTS, FOR_ALL)]
-    if [counts["I"], counts["O"]] not in (players, players[::-1]):
+    bound = [players[0] - gates, players[1]]
+    if [counts["I"], counts["O"]] not in (players, players[::-1], bound, bound[::-1]):
         own = f"{players[0]} existential and {players[1]} universal variables"
         raise finding(f"{path}: the circuit has {counts['I']} inputs and {counts['O']} outputs, and the formula {own}")
 
