@@ -53,6 +53,13 @@ impl<'a> Question<'a> {
         Question { names, formula }
     }
 
+    /// The formula, without its names.
+    pub fn into_formula(self) -> GateFormula
+        ensures { result ≡ self.entry.formula }
+    {
+        self.formula
+    }
+
     /// The formula.
     pub fn formula(&self) -> &GateFormula
         ensures { result.now ≡ self.now.formula }

@@ -5,8 +5,8 @@ use Rattle.gate_verify.proofs.clauses.read_in_clauses.Goals as goal
 
 pub returns-in-Ok : goal.returns-in-Ok
 returns-in-Ok g c =
-    made_of (call_of g.A.Source c.args.question.now c.read_bytes.new.source) c.deref.result.now c.clauses_of_text.result
-    (rw c.deref.ensures.value c.in-Ok.ensures.bytes) c.in-Ok.ensures.works c.clauses_of_text.ensures
+    made_of (call_of g.A.Source c.args.question.now c.read_bytes.new.source) c.in-Ok.text.items c.clauses_of_bytes.result
+    c.in-Ok.ensures.bytes c.in-Ok.ensures.works c.clauses_of_bytes.ensures
 
 pub returns-in-Err : goal.returns-in-Err
 returns-in-Err g c =
