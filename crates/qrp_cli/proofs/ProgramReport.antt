@@ -44,7 +44,7 @@ text_status n = if nat_eq n 1 then 3 else (if nat_eq n 9 then 4 else 2)
 text_refused : (n : ℕ) → text_status n ≡ 0 → ⊥
 text_refused n is = grind (arith, common_steps)
 
-is_refused : (e : Fault) → fault_status e ≡ 0 → ⊥
+pub is_refused : (e : Fault) → fault_status e ≡ 0 → ⊥
 is_refused (fault.Formula e line) is = text_refused (formula_number e) is
 is_refused (fault.Trace e line) is = text_refused (trace_number e) is
 is_refused (fault.Check C5) is = omega (arith, is)
@@ -59,7 +59,7 @@ pub same_rules : (a b : Rules) → job.Check a ≡ job.Check b → a ≡ b
 same_rules a b e = cc e
 
 -- a text that was sent with status 0 went out whole
-sent_whole : {S : Type 0} (sink : sinks.Ghosts S) (old new : S) (text : List ℕ) (status returned : ℕ)
+pub sent_whole : {S : Type 0} (sink : sinks.Ghosts S) (old new : S) (text : List ℕ) (status returned : ℕ)
     → IsSent sink old new text status 3 returned → returned ≡ 0 → Appends (sink.written old) (sink.written new) text × (status ≡ 0)
 sent_whole sink old new text status returned (inl sent) zero = (sent.0, sym sent.3 ∙ zero)
 sent_whole sink old new text status returned (inr failed) zero = absurd (omega (arith, failed.3, zero))

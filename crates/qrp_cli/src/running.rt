@@ -29,16 +29,16 @@ use qrp_program::{Status, finish_sent, send_fault};
 use qrp_report::put_verdict;
 use std::alloc::Global;
 
-/// Sends the canonical text of a formula.
-fn send_formula<S: Sink>(sink: &mut S, formula: &Formula) -> Status
+/// Sends the canonical text of a formula, and returns the status: 0, or 3 if the sink failed.
+pub fn send_formula<S: Sink>(sink: &mut S, formula: &Formula) -> Status
     ensures { IsSent S.Sink sink.old sink.new (text formula.now) 0 3 result }
 {
     let sent = write_formula(formula, sink);
     finish_sent(sink, sent, 0)
 }
 
-/// Sends the line of a verdict.
-fn send_verdict<S: Sink>(sink: &mut S, truth: bool) -> Status
+/// Sends the line of a verdict, and returns the status: 0, or 3 if the sink failed.
+pub fn send_verdict<S: Sink>(sink: &mut S, truth: bool) -> Status
     ensures { IsSent S.Sink sink.old sink.new (verdict_line truth) 0 3 result }
 {
     let sent = put_verdict(sink, truth);

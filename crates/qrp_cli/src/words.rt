@@ -10,8 +10,9 @@ use crate::job::Job;
 use qrp_check::Rules;
 use qrp_program::is_word;
 
-/// The rules and the places of a formula and a trace, if the arguments are this command on the two.
-fn texts(words: &[String], command: &str) -> Option<(Rules, usize, usize)>
+/// The rules and the places of a formula and a trace among the arguments, counted from 0, if these are
+/// this command on the two: before or after the files the flag `--qu` may stand.
+pub fn texts(words: &[String], command: &str) -> Option<(Rules, usize, usize)>
     ensures row { IfSome result (λ r. HasTexts command.now (map (λ w. string_bytes w) words.now)
         (record { rules = r.0; formula = r.1; trace = r.2 })) }
     ensures within { IfSome result (λ r. (r.1 < length words.now) × (r.2 < length words.now)) }

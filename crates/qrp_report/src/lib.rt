@@ -2,7 +2,7 @@
 //!
 //! - Owns: refusals as data: letter, number, rule and position, with their lines, statuses and
 //!   meanings.
-//! - Offers: `Refusal`, `put_refusal`, `put_verdict`, `is_of_fault`.
+//! - Offers: `Refusal`, `put_refusal`, `put_verdict`, `put_numbers_line`, `is_of_fault`.
 //! - Proved: the refusal of each fault, exactly its line, its status and its meaning, and which
 //!   numbers are those of a fault.
 //! - Read first: `Refusal::of`, `Refusal::status`, `Refusal::meaning`, `put_refusal`,
@@ -17,6 +17,6 @@ mod meaning;
 mod of_fault;
 mod refusal;
 
-pub use lines::{put_refusal, put_verdict};
+pub use lines::{put_numbers_line, put_refusal, put_verdict};
 pub use of_fault::is_of_fault;
 pub use refusal::Refusal;

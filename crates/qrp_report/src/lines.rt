@@ -18,7 +18,10 @@ fn put_numbered<S: Sink>(sink: &mut S, text: &[u8], number: u64) -> Result<(), S
 }
 
 /// Sends the line of two texts, each with a number after it.
-fn put_numbers_line<S: Sink>(
+///
+/// # Errors
+/// If the sink failed. A beginning of the line went out then.
+pub fn put_numbers_line<S: Sink>(
     sink: &mut S,
     first: (&[u8], u64),
     second: (&[u8], u64),

@@ -1,0 +1,83 @@
+-- From what was checked or made to the report of a job.
+use Rattle.std.proofs.Common.{arith, ◌≡◌, ◌∙◌, ◌⊎◌, ℕ, Bool, List, Option, Some, IfSome, inl, inr, refl, sym, subst, Result, Ok, Err}
+use Rattle.std.proofs.lemmas.Grind.{common_steps}
+use Rattle.std.specs.Io.KnownBytes.{Appends}
+use Rattle.qbf_core.specs.Qbf.{Qbf}
+use Rattle.qbf_text.specs.declared.sink.Sink as sinks
+use Rattle.qcir.specs.Reading.{Question, read_gates}
+use Rattle.qcir.specs.declared.fault.QuestionFault.{QuestionFault}
+use Rattle.qcir.proofs.Spelled.{reads_questions}
+use Rattle.qdimacs.specs.Grammar.{text}
+use Rattle.qrp_check.specs.Checked.{SourceCall}
+use Rattle.qrp_rules.specs.declared.rules.Rules.{Rules}
+use Rattle.qrp_program.specs.Output.{IsOn, IsReported, IsReportedTo}
+use Rattle.qrp_report.specs.Lines.{verdict_line}
+use Rattle.qrp_cli.proofs.ProgramReport as cli
+use Rattle.gate_verify.specs.Faults.{IsOutOfMemory, IsQuestionDevice}
+use Rattle.gate_verify.specs.Headline.{Headline}
+use Rattle.gate_verify.specs.Laws.{in_clauses}
+use Rattle.gate_verify.specs.Made.{AreClausesOf, AreMade}
+use Rattle.gate_verify.specs.declared.fault.Unverified.{Unverified}
+use Rattle.gate_verify.specs.declared.fault.Unverified.TheVariants as fault
+use Rattle.qrp_gates.specs.Lines.{question_number, question_status, refusal_line, refusal_status}
+use Rattle.qrp_gates.specs.Output.{PrintsVerdict, WritesClauses, check_report, clauses_report}
+use Rattle.qrp_gates.specs.declared.job.Job.TheVariants as job
+
+-- a check is reported on the first sink
+pub on_out : (rules : Rules) (checked : Result Bool Unverified) (out errors : Type 0) → out → IsOn (check_report rules checked).stream out errors
+on_out rules (Ok t) out errors h = h
+on_out rules (Err e) out errors h = h
+
+-- the rules of a check
+pub same_rules : (a b : Rules) → job.Check a ≡ job.Check b → a ≡ b
+same_rules a b e = cc e
+
+-- the status of a refusal is not 0
+question_refused : (number : ℕ) → question_status number ≡ 0 → ⊥
+question_refused number is = grind (arith, common_steps)
+
+is_refused : (e : Unverified) → refusal_status e ≡ 0 → ⊥
+is_refused (fault.Question e n) is = question_refused (question_number e) is
+is_refused fault.TooLong is = omega (arith, is)
+is_refused (fault.Proof e) is = cli.is_refused e is
+
+-- with status 0 a check prints the line of a verdict, for which the headline holds
+pub prints_verdict : {S : Type 0} (sink : sinks.Ghosts S) (old new : S) (rules : Rules) (question trace : Option (List ℕ)) (a b : List ℕ)
+    (checked : Result Bool Unverified) (returned : ℕ) → IfSome question (λ a. IfSome trace (λ b. Headline rules a b checked))
+    → question ≡ Some a → trace ≡ Some b → IsReportedTo sink old new (check_report rules checked) returned → returned ≡ 0
+    → PrintsVerdict sink old new rules a b
+prints_verdict sink old new rules question trace a b (Ok t) returned holds is_a is_b sent zero =
+    (t, rw is_b at (rw is_a at holds), (cli.sent_whole sink old new (verdict_line t) 0 returned sent zero).0)
+prints_verdict sink old new rules question trace a b (Err e) returned holds is_a is_b sent zero =
+    absurd (is_refused e (cli.sent_whole sink old new (refusal_line e) (refusal_status e) returned sent zero).1)
+
+-- the formula of gates of which clauses were made
+made_of : (read : Result Question (QuestionFault × ℕ)) (f : Qbf)
+    → AreClausesOf read (Ok f) ⊎ (IsOutOfMemory {V = Qbf} (Ok f) ⊎ IsQuestionDevice {V = Qbf} (Ok f))
+    → (q : Question) × (read ≡ Ok q) × (f ≡ in_clauses q.formula)
+made_of (Ok q) f (inl (sound, is)) = (q, refl, is)
+made_of (Err e) f (inl h) = absurd (cc h)
+made_of read f (inr (inl h)) = absurd h
+made_of read f (inr (inr h)) = absurd h
+
+-- with status 0 the clauses of the formula of gates that the bytes spell are written
+pub writes_clauses : {S : Type 0} (sink : sinks.Ghosts S) (old new : S) (question : SourceCall) (a : List ℕ) (made : Result Qbf Unverified)
+    (returned : ℕ) → AreMade question made → question.bytes ≡ Some a
+    → IsReportedTo sink old new (clauses_report made) returned → returned ≡ 0 → WritesClauses sink old new a
+writes_clauses sink old new question a (Ok f) returned made is_a sent zero =
+    let w = made_of made.read f made.made in
+    let reads : made.read ≡ read_gates a = subst (λ (bytes : Option (List ℕ)). IfSome bytes (λ b. made.read ≡ read_gates b)) is_a made.reads in (
+      w.0,
+      (reads_questions a w.0).0 (sym reads ∙ w.1),
+      subst (λ (g : Qbf). Appends (sink.written old) (sink.written new) (text g)) w.2 (cli.sent_whole sink old new (text f) 0 returned sent zero).0,
+    )
+writes_clauses sink old new question a (Err e) returned made is_a sent zero =
+    absurd (is_refused e (cli.sent_whole sink old new (refusal_line e) (refusal_status e) returned sent zero).1)
+
+-- a report of clauses that were made goes to the first sink
+pub of_clauses : {O E : Type 0} (o : sinks.Ghosts O) (out out2 : O) (e : sinks.Ghosts E) (errors errors2 : E) (made : Result Qbf Unverified)
+    (returned : ℕ) → IsReported o out out2 e errors errors2 (clauses_report made) returned → returned ≡ 0
+    → IsReportedTo o out out2 (clauses_report made) returned
+of_clauses o out out2 e errors errors2 (Ok f) returned sent zero = sent.0
+of_clauses o out out2 e errors errors2 (Err g) returned sent zero =
+    absurd (is_refused g (cli.sent_whole e errors errors2 (refusal_line g) (refusal_status g) returned sent.0 zero).1)

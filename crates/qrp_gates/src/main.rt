@@ -1,0 +1,31 @@
+//! The program `qrp_gates`: questions in gates, their clauses, and the check of traces of them.
+//!
+//! - Owns: its command line and its reports.
+//! - Offers: the program.
+//! - Proved: `run` writes exactly the report for its files to the right sink, with its status. With
+//!   status 0, `check` printed the truth of the formula of gates, and `clauses` wrote its clauses.
+//! - Read first: `run`, `request`, and then `program` of `qrp_program`.
+//! - Tested only: over the built program.
+//! - Trusted: std's files, arguments and streams, as `main` uses them.
+//! - On the map: the program qrp_gates.
+#![tactic(auto)]
+
+mod job;
+mod lines;
+mod running;
+mod words;
+
+use buffered_sink::Buffered;
+use job::Job;
+use qbf_text::ToWrite;
+use qrp_program::program;
+use qrp_system::{SystemFiles, given_words};
+use std::process::ExitCode;
+
+fn main(rt: HostRuntime) -> ExitCode {
+    let mut out = Buffered::new(ToWrite::new(rt.stdout()));
+    let mut err = ToWrite::new(rt.stderr());
+    let files = SystemFiles::new(&rt);
+    let words = given_words(&rt);
+    ExitCode::from(program::<Job, _, _, _>(rt.alloc(), &files, words, &mut out, &mut err))
+}

@@ -1,0 +1,86 @@
+//! A job from its sources to its sinks.
+
+ghost use Rattle.std.specs.Prelude.{◌≡◌, List, ℕ, Some};
+ghost use Rattle.qrp_check.specs.Checked.{call_of};
+ghost use Rattle.qrp_rules.specs.declared.rules.Rules.{Rules};
+ghost use Rattle.qrp_program.specs.Output.{Report, IsReported, IsReportedTo};
+ghost use Rattle.gate_verify.specs.Checked.{IsChecked, StopsOnceRead};
+ghost use Rattle.gate_verify.specs.Made.{AreMade};
+ghost use Rattle.qrp_gates.specs.declared.job.Job.TheVariants.{Check, Clauses};
+ghost use Rattle.qrp_gates.specs.Output.{IsOutput, check_report, clauses_report};
+ghost use Rattle.qrp_gates.specs.Output.{PrintsVerdict, WritesClauses};
+
+use crate::job::Job;
+use crate::lines::send_refusal;
+use gate_verify::{Unverified, read_in_clauses, verify_question};
+use qbf_core::Formula;
+use qbf_text::{Sink, Source};
+use qrp_cli::{send_formula, send_verdict};
+use qrp_program::Status;
+use std::alloc::Global;
+
+/// Sends the line of the verdict, or for the first fault.
+fn send_checked<O: Sink>(out: &mut O, checked: Result<bool, Unverified>) -> Status
+    ensures { (rules : Rules)
+        → IsReportedTo O.Sink out.old out.new (check_report rules checked) result }
+{
+    match checked {
+        Ok(truth) => send_verdict(out, truth),
+        Err(fault) => send_refusal(out, fault),
+    }
+}
+
+/// Sends the text of the clauses to `out`, or the line for the first fault to `err`.
+fn send_clauses<O: Sink, E: Sink>(
+    out: &mut O,
+    err: &mut E,
+    made: Result<Formula, Unverified>,
+) -> Status
+    ensures { IsReported O.Sink out.old out.new E.Sink err.old err.new
+        (clauses_report made) result }
+{
+    match made {
+        Ok(formula) => send_formula(out, &formula),
+        Err(fault) => send_refusal(err, fault),
+    }
+}
+
+/// Does a job: reads the formula of gates and, if the job asks for it, the trace, and writes the
+/// report to `out` or `err`.
+///
+/// If the bytes of the sources are known, the report is the one for what they spell. A source
+/// that fails is reported in a line with status 3, out of memory in a line with status 4, on the
+/// sink that takes the refusals of the job: `out` for `Check`, `err` for `Clauses`. The other sink
+/// gets nothing. If the sink of the report fails, in a write or in `finish`, the status is 3 and
+/// a beginning of the text went out. For `Clauses`, and unless the clauses are made, the trace is
+/// not pulled. Once a trace was read, nothing is read past the separator after its result word but
+/// at most 4,096 bytes.
+pub fn run<F: Source, T: Source, O: Sink, E: Sink>(
+    alloc: Global,
+    job: Job,
+    formula: &mut F,
+    trace: &mut T,
+    out: &mut O,
+    err: &mut E,
+) -> Status
+    ensures report { (r : Report)
+        × IsOutput job
+        (call_of F.Source formula.old formula.new)
+        (call_of T.Source trace.old trace.new) r
+        × IsReported O.Sink out.old out.new E.Sink err.old err.new r result }
+    // The text that `check` prints with status 0 is the line of a verdict for which the headline
+    // holds.
+    ensures headline { (rules : Rules) (a b : List ℕ) → job ≡ Check rules
+        → F.remaining formula.old ≡ Some a → T.remaining trace.old ≡ Some b → result ≡ 0
+        → PrintsVerdict O.Sink out.old out.new rules a b }
+    // The text that `clauses` prints with status 0 is that of the clauses of the formula of gates
+    // that the bytes spell.
+    ensures clauses { (a : List ℕ) → job ≡ Clauses → F.remaining formula.old ≡ Some a
+        → result ≡ 0 → WritesClauses O.Sink out.old out.new a }
+    ensures not_pulled { job ≡ Clauses → trace.new ≡ trace.old }
+{
+    match job {
+        Job::Clauses => send_clauses(out, err, read_in_clauses(alloc, formula)),
+        Job::Check(rules) => send_checked(out, verify_question(alloc, formula, trace, rules)),
+    }
+}
