@@ -11,12 +11,12 @@ passed = failed = skipped = 0
 
 # A command that a shell starts in the background ignores an interrupt, and so would each command that a test starts. The tests want what
 # a user has: each signal ends the command.
-for number, handler in ((signal.SIGINT, signal.default_int_handler), (signal.SIGTERM, signal.SIG_DFL), (signal.SIGHUP, signal.SIG_DFL)):
+for number in (signal.SIGINT, signal.SIGTERM, signal.SIGHUP):
     if signal.getsignal(number) == signal.SIG_IGN:
-        signal.signal(number, handler)
+        signal.signal(number, signal.default_int_handler if number == signal.SIGINT else signal.SIG_DFL)
 
 
-def expect(name, holds, found=""):
+def expect(name: str, holds: object, found: object = "") -> bool:
     """Counts a case, and names it and shows what was found if it does not hold."""
     global passed, failed
     if holds:
@@ -24,17 +24,17 @@ def expect(name, holds, found=""):
     else:
         failed += 1
         print(f"FAILED: {name} {str(found)[:800]}", flush=True)
-    return holds
+    return bool(holds)
 
 
-def skip(name, why):
+def skip(name: str, why: str) -> None:
     """Counts a case that cannot be tried here, and says why."""
     global skipped
     skipped += 1
     print(f"skipped: {name}: {why}", flush=True)
 
 
-def finish(least):
+def finish(least: int) -> int:
     """Prints how many cases passed, failed and were skipped; the status of the test."""
     global failed
     if not skipped and not failed and passed < least:

@@ -8,12 +8,13 @@ below EXAMPLE between .nf and .fi.
 import re
 import sys
 from pathlib import Path
+from typing import Union
 
 BLOCK = re.compile(r"^```\w*\n(.*?)^```$|(?<=\n\n)((?: {4}[^\n]*\n)+(?:\n+(?: {4}[^\n]*\n)+)*)", re.MULTILINE | re.DOTALL)
 EXAMPLE = re.compile(r"^\.nf\n(.*?)^\.fi$", re.MULTILINE | re.DOTALL)
 
 
-def blocks(page):
+def blocks(page: Union[str, Path]) -> list[str]:
     """The text of each block, in the order of the page."""
     text = Path(page).read_text(encoding="utf-8")
     if Path(page).suffix != ".md":
@@ -23,7 +24,7 @@ def blocks(page):
     return [groups[1] if groups[1] is not None else re.sub("^ {4}", "", groups[2], flags=re.MULTILINE) for groups in found]
 
 
-def block(page, words):
+def block(page: Union[str, Path], words: str) -> str:
     """The one block that begins with these words."""
     found = [block for block in blocks(page) if block.startswith(words)]
     if len(found) != 1:

@@ -10,7 +10,9 @@ import os
 import shutil
 import subprocess
 import tempfile
+from collections.abc import Callable
 from pathlib import Path
+from typing import Optional
 
 GATE = Path(__file__).resolve().parents[2] / "gate"
 
@@ -112,7 +114,7 @@ EDITS = {
 class Gate:
     """A repository of some files in a folder of its own, with the commands of the gate and a toolchain."""
 
-    def __init__(self, rt, texts):
+    def __init__(self, rt: str, texts: dict[str, str]) -> None:
         self.root = Path(tempfile.mkdtemp(prefix="test-gate-"))
         self.rt, self.temporary = self.root / "rt", self.root / "temporary"
         shutil.copytree(GATE, self.root / "gate")
@@ -122,38 +124,40 @@ class Gate:
         self.rt.chmod(0o755)
         self.temporary.mkdir()
 
-    def environment(self, **more):
+    def environment(self, **more: str) -> dict[str, str]:
         kept = {"XDG_CACHE_HOME": str(self.root / "kept")}
         return {**os.environ, "RT": str(self.rt), "TMPDIR": str(self.temporary), "PYTHONDONTWRITEBYTECODE": "1", **kept, **more}
 
-    def script(self, name="try-wrong-bodies"):
+    def script(self, name: str = "try-wrong-bodies") -> str:
         return str(self.root / "gate" / name)
 
-    def run(self, *words, script="try-wrong-bodies", before=None, **more):
+    def run(
+        self, *words: str, script: str = "try-wrong-bodies", before: Optional[Callable[[], object]] = None, **more: str
+    ) -> subprocess.CompletedProcess[str]:
         """Runs a command of the gate, with something done before in its process, and more in its environment."""
-        how = {"env": self.environment(**more), "preexec_fn": before}
-        return subprocess.run([self.script(script), *words], capture_output=True, text=True, check=False, **how)
+        called, environment = [self.script(script), *words], self.environment(**more)
+        return subprocess.run(called, capture_output=True, text=True, check=False, env=environment, preexec_fn=before)
 
-    def log(self):
+    def log(self) -> list[str]:
         """The calls of the toolchain."""
         log = self.root / "log"
         return log.read_text().splitlines() if log.exists() else []
 
-    def left(self):
+    def left(self) -> list[str]:
         """What is left in the folder of temporary files."""
         return [str(path) for path in self.temporary.iterdir()]
 
-    def __enter__(self):
+    def __enter__(self) -> "Gate":
         return self
 
-    def __exit__(self, *_):
+    def __exit__(self, *_: object) -> None:
         shutil.rmtree(self.root)
 
 
 class Repository(Gate):
     """A repository of one crate with mutants."""
 
-    def __init__(self, edits, source=SOURCE):
+    def __init__(self, edits: dict[str, str], source: str = SOURCE) -> None:
         answers = "use Rattle.std.{refl}\n\npub returns : goal.returns\nreturns c = fits\n"
         crate = {"src/lib.rt": source, "src/low.rt": LOW, "proofs/sum/Answers.antt": answers, "proofs/most/Answers.antt": answers}
         crate |= {f"must-fail/{name}.edit": text for name, text in edits.items()}

@@ -16,52 +16,59 @@ import runpy
 import subprocess
 import sys
 import tempfile
+from collections.abc import Callable
+from typing import Optional
 
 sys.dont_write_bytecode = True
 sys.path.insert(0, str(pathlib.Path(__file__).resolve().parents[1] / "tools"))
 import random_proofs  # noqa: E402
 
+Ended = tuple[str, str, Optional[int]]  # what a command printed on its output and its errors, and its status
+Solve = Callable[..., Ended]
+Pairs = list[tuple[str, int]]  # the variables of a prefix, each with its quantifier
+Clauses = list[list[int]]
+Case = tuple[bool, Pairs, Clauses]  # a formula with its truth
 SEED = 2012
 OF_EACH_TRUTH = 150
 BLOCKS = 3  # at least so many in a third of the formulas
 
 
-def block_count(pairs):
+def block_count(pairs: Pairs) -> int:
     """How many blocks the prefix has."""
     return sum(1 for place, pair in enumerate(pairs) if place == 0 or pair[0] != pairs[place - 1][0])
 
 
-def formulas():
+def formulas() -> list[Case]:
     """As many true as false formulas, each with its truth; a third of each have several blocks."""
     draw = random.Random(SEED)
-    found = {True: [], False: []}
+    found: dict[bool, list[tuple[Pairs, Clauses]]] = {True: [], False: []}
     while min(map(len, found.values())) < OF_EACH_TRUTH:
         pairs, clauses = random_proofs.random_formula(draw)
         same = found[random_proofs.truth(pairs, clauses)]
         if len(same) < OF_EACH_TRUTH and (len(same) % 3 or block_count(pairs) >= BLOCKS):
             same.append((pairs, clauses))
-    return [(truth, *formula) for truth, same in found.items() for formula in same]
+    return [(truth, pairs, clauses) for truth, same in found.items() for pairs, clauses in same]
 
 
-def text_of(pairs, clauses):
+def text_of(pairs: Pairs, clauses: Clauses) -> str:
     """The formula in QDIMACS."""
     sets = "".join(f"{quantifier} {variable} 0\n" for quantifier, variable in pairs)
     lines = "".join(" ".join(map(str, [*clause, 0])) + "\n" for clause in clauses)
     return f"p cnf {max([0, *(variable for _, variable in pairs)])} {len(clauses)}\n{sets}{lines}"
 
 
-def ended(*words):
+def ended(*words: object) -> Ended:
     """What the command printed on its output and its errors, and its status; a command that takes a minute is ended."""
-    words = [sys.executable, *words] if str(words[0]).endswith(".py") else words
+    called = list(map(str, (sys.executable, *words) if str(words[0]).endswith(".py") else words))
     try:
-        run = subprocess.run(words, capture_output=True, text=True, timeout=60, check=False)
+        run = subprocess.run(called, capture_output=True, text=True, timeout=60, check=False)
     except subprocess.TimeoutExpired:
         return "", "it takes more than a minute", None
     return run.stdout, run.stderr, run.returncode
 
 
 @functools.lru_cache(maxsize=None)
-def checked(program, formula, trace):
+def checked(program: str, formula: str, trace: str) -> tuple[Ended, Ended]:
     """What the program says of these texts, without the flag and with it."""
     with tempfile.TemporaryDirectory() as work:
         files = pathlib.Path(work, "formula"), pathlib.Path(work, "trace")
@@ -70,11 +77,11 @@ def checked(program, formula, trace):
         return ended(program, "check", *files), ended(program, "check", "--qu", *files)
 
 
-def in_python(file):
+def in_python(file: str) -> Solve:
     """What calls the solver in this file, without a process of its own for each formula, and returns what `ended` does."""
     module = runpy.run_path(file)
 
-    def call(*words):
+    def call(*words: object) -> Ended:
         output, errors = io.StringIO(), io.StringIO()
         with contextlib.redirect_stdout(output), contextlib.redirect_stderr(errors):
             status = module["main"](list(map(str, words)))
@@ -83,7 +90,7 @@ def in_python(file):
     return call
 
 
-def is_solved(program, solve, formula, wanted):
+def is_solved(program: str, solve: Solve, formula: str, wanted: str) -> bool:
     """Whether the solver, which this calls, prints this line for the formula, and the program does for its proof as text."""
     with tempfile.TemporaryDirectory() as work:
         file, trace = pathlib.Path(work, "formula"), pathlib.Path(work, "trace")
@@ -92,19 +99,20 @@ def is_solved(program, solve, formula, wanted):
         return solve(file, trace) == line and checked(program, formula, trace.read_text()) == (line, line)
 
 
-def solved(program, solver, cases):
+def solved(program: str, solver: str, cases: list[Case]) -> list[bool]:
     """For each formula whether the solver solves it. Those that it does not are named."""
     is_file = solver.endswith(".py")
-    solve = in_python(solver) if is_file else functools.partial(ended, solver)
+    command: Solve = functools.partial(ended, solver)
+    solve = in_python(solver) if is_file else command
     with concurrent.futures.ThreadPoolExecutor(1 if is_file else os.cpu_count()) as pool:
         answers = list(pool.map(lambda case: is_solved(program, solve, text_of(*case[1:]), str(case[0]).lower()), cases))
-    for (_, *formula), is_right in zip(cases, answers):
+    for (_, pairs, clauses), is_right in zip(cases, answers):
         if not is_right:
-            print(f"FAILED: {pathlib.Path(solver).name} on {text_of(*formula)!r}")
+            print(f"FAILED: {pathlib.Path(solver).name} on {text_of(pairs, clauses)!r}")
     return answers
 
 
-def other_use(solver, folder):
+def other_use(solver: str, folder: pathlib.Path) -> list[bool]:
     """Whether the solver ends as it should without a name for its trace, on a refused formula, without a file, and on wrong words."""
     (folder / "free").write_text("p cnf 2 2\ne 1 0\n1 0\n2 0\n")
     (folder / "right").write_text("p cnf 0 1\n0\n")
@@ -118,7 +126,7 @@ def other_use(solver, folder):
     ]
 
 
-def main(words):
+def main(words: list[str]) -> None:
     program, *solvers = words
     answers, cases = [], formulas()
     with tempfile.TemporaryDirectory() as work:

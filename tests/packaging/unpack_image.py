@@ -7,22 +7,23 @@ import io
 import json
 import sys
 import tarfile
+from typing import Any
 
 
-def same(name, found, wanted):
+def same(name: str, found: object, wanted: object) -> None:
     if found != wanted:
         sys.exit(f"{name}: {found}, where {wanted} is named")
 
 
 class Image:
-    def __init__(self, path):
+    def __init__(self, path: str) -> None:
         with tarfile.open(path) as archive:
-            self.files = {entry.name: archive.extractfile(entry).read() for entry in archive if entry.isfile()}
+            self.files = {entry.name: content.read() for entry in archive if entry.isfile() and (content := archive.extractfile(entry))}
 
-    def json(self, name):
+    def json(self, name: str) -> Any:
         return json.loads(self.files[name])
 
-    def blob(self, described):
+    def blob(self, described: dict[str, Any]) -> bytes:
         """The content of a descriptor."""
         kind, _, name = described["digest"].partition(":")
         content = self.files[f"blobs/{kind}/{name}"]
@@ -31,7 +32,7 @@ class Image:
         return content
 
 
-def main(path, folder):
+def main(path: str, folder: str) -> None:
     image = Image(path)
     same("oci-layout", image.json("oci-layout"), {"imageLayoutVersion": "1.0.0"})
     (described,) = image.json("index.json")["manifests"]
@@ -41,9 +42,9 @@ def main(path, folder):
     same("the layers", config["rootfs"]["diff_ids"], [f"sha256:{hashlib.sha256(layer).hexdigest()}" for layer in layers])
     same("what is run", config["config"]["Entrypoint"], ["/qrp_cmd"])
     (legacy,) = image.json("manifest.json")
-    path = lambda part: "blobs/" + part["digest"].replace(":", "/")
-    same("manifest.json", (legacy["Config"], legacy["Layers"]), (path(manifest["config"]), [path(layer) for layer in manifest["layers"]]))
-    used = [path(part) for part in (described, manifest["config"], *manifest["layers"])]
+    blob = lambda part: "blobs/" + part["digest"].replace(":", "/")
+    same("manifest.json", (legacy["Config"], legacy["Layers"]), (blob(manifest["config"]), [blob(layer) for layer in manifest["layers"]]))
+    used = [blob(part) for part in (described, manifest["config"], *manifest["layers"])]
     same("the blobs", sorted(name for name in image.files if name.startswith("blobs/")), sorted(used))
     for layer in layers:
         with tarfile.open(fileobj=io.BytesIO(layer)) as archive:

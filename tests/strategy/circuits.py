@@ -77,7 +77,7 @@ def is_open(blocks: list[tuple[str, list[int]]]) -> bool:
 class Reader:
     """The bytes of a circuit, line by line and number by number."""
 
-    def __init__(self, data: bytes):
+    def __init__(self, data: bytes) -> None:
         self.data, self.at = data, 0
 
     def line(self) -> str:

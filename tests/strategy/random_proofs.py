@@ -11,7 +11,7 @@ Step = tuple[frozenset[int], list[int]]  # literals, and places of the anteceden
 class Proof:
     """A formula and a proof of its truth or falsity, as texts."""
 
-    def __init__(self, seed: int):
+    def __init__(self, seed: int) -> None:
         self.random = random.Random(seed)
         self.quantifier: dict[int, str] = {}
         self.level: dict[int, int] = {}
