@@ -19,7 +19,7 @@ PLAIN = "plain"
 ROOMS = {
     "strategies": ["qrp_strategy"],
     "the library": ["qrp_c"],
-    "questions in gates": ["qcir", "gate_strategy", "qrp_gates"],
+    "questions in gates": ["qcir", "gate_verify", "gate_strategy", "qrp_gates"],
     "completeness": ["qbf_completeness", "qrp_completeness"],
 }
 CHECKER, FAST, LINEAR, REST = "the checker", "fast ways", "what keeps a check linear", "laws, worked rows and tests"
