@@ -1,4 +1,4 @@
-# make          proves and builds the programs: bin/qrp_cmd, and bin/qrp_strategy, which writes the winner's strategy as a circuit
+# make          proves and builds the programs: bin/qrp_cmd; bin/qrp_strategy, which writes the winner's strategy as a circuit; and bin/qrp_gates, for formulas of gates
 # make demo     the same, and runs the checker on real examples
 # make try      runs the checker on two examples before any proof, half a minute for each
 # make lib      proves and builds the library for C: lib/libqrp.a and lib/libqrp.so
@@ -6,7 +6,7 @@
 # make test     proves what has changed, builds it, and runs all tests
 # make gate     the whole: every proof, on a new machine from nothing; the mutants, all tests
 # make bench    measures time and memory
-# make static   links the programs once more, with the C library inside: bin/qrp_cmd.static and bin/qrp_strategy.static
+# make static   links the programs once more, with the C library inside: bin/qrp_cmd.static, bin/qrp_strategy.static and bin/qrp_gates.static
 # make wheel    packs the Python module with the library inside, below dist/, for pip; and its source distribution
 # make dist     packs a release below dist/: the archive, and the same as `make wheel`
 # make deb      packs a package for Debian and Ubuntu below dist/
@@ -20,6 +20,8 @@ RT ?= rt
 PROGRAM = bin/qrp_cmd
 # the winner's strategy as a circuit
 STRATEGY = bin/qrp_strategy
+# formulas of gates
+GATES = bin/qrp_gates
 # only for the tests
 ECHO = bin/qrp_echo
 PROVED = bin/proved
@@ -30,7 +32,7 @@ SOURCES = $(shell find crates \( -name out -o -name must-fail -o -name wrong-def
 LIBRARY = lib/libqrp.a
 
 # for any Linux
-STATIC = $(PROGRAM).static $(STRATEGY).static
+STATIC = $(PROGRAM).static $(STRATEGY).static $(GATES).static
 
 # the tests of the libraries, as programs
 LIBRARY_TESTS = crates/formula_tests/out/formula_tests_tests crates/gate_tests/out/gate_tests_tests crates/trace_tests/out/trace_tests_tests
@@ -46,15 +48,16 @@ TESTS = test-program test-strategy test-derivations test-tools test-examples tes
 .PHONY: all lib static demo try check test programs linked check-programs gate bench dist wheel deb image install uninstall help
 .PHONY: clean test-refusals $(TESTS)
 
-all: $(PROGRAM) $(STRATEGY)
+all: $(PROGRAM) $(STRATEGY) $(GATES)
 
-# One call for both: they stand on the same crates.
-$(PROGRAM) $(STRATEGY) &: $(SOURCES)
-	@echo 'proves and builds the programs: from nothing 7 to 30 minutes on four processors for the checker, and some more for strategies; 4 GB of memory, and 4.4 GB of disk for what is kept'
-	RT=$(RT) gate/prove qrp_cmd qrp_strategy
+# One call for all: they stand on the same crates.
+$(PROGRAM) $(STRATEGY) $(GATES) &: $(SOURCES)
+	@echo 'proves and builds the programs: from nothing 7 to 30 minutes on four processors for the checker, and some more for strategies and gates; 4 GB of memory, and 4.4 GB of disk for what is kept'
+	RT=$(RT) gate/prove qrp_cmd qrp_strategy qrp_gates
 	mkdir -p bin
 	cp crates/qrp_cmd/out/qrp_cmd $(PROGRAM)
 	cp crates/qrp_strategy/out/qrp_strategy $(STRATEGY)
+	cp crates/qrp_gates/out/qrp_gates $(GATES)
 
 lib: $(LIBRARY)
 
@@ -64,7 +67,7 @@ $(LIBRARY): $(SOURCES) packaging/build-library
 
 static: $(STATIC)
 
-$(STATIC) &: $(PROGRAM) $(STRATEGY) packaging/build-static VERSION
+$(STATIC) &: $(PROGRAM) $(STRATEGY) $(GATES) packaging/build-static VERSION
 	RT=$(RT) packaging/build-static bin
 
 demo: all
@@ -92,6 +95,7 @@ programs:
 	cp crates/qrp_cmd/out/qrp_cmd $(PROGRAM)
 	cp crates/qrp_echo/out/qrp_echo $(ECHO)
 	cp crates/qrp_strategy/out/qrp_strategy $(STRATEGY)
+	cp crates/qrp_gates/out/qrp_gates $(GATES)
 
 test: $(PROVED)
 	RT=$(RT) packaging/build-library --proved lib
@@ -113,8 +117,8 @@ check-programs: linked
 
 # The static programs are only linked.
 linked:
-	@for built in $(PROGRAM) $(STRATEGY) $(LIBRARY); do [ -e $$built ] || { echo "make check: there is no $$built: run 'make all lib' first"; exit 2; }; done
-	@{ [ $(PROGRAM).static -nt $(PROGRAM) ] && [ $(STRATEGY).static -nt $(STRATEGY) ]; } || { rm -f $(STATIC) && RT=$(RT) packaging/build-static bin; } || true
+	@for built in $(PROGRAM) $(STRATEGY) $(GATES) $(LIBRARY); do [ -e $$built ] || { echo "make check: there is no $$built: run 'make all lib' first"; exit 2; }; done
+	@{ [ $(PROGRAM).static -nt $(PROGRAM) ] && [ $(STRATEGY).static -nt $(STRATEGY) ] && [ $(GATES).static -nt $(GATES) ]; } || { rm -f $(STATIC) && RT=$(RT) packaging/build-static bin; } || true
 
 test-refusals:
 	$(if $(wildcard $(LIBRARY_TESTS)),tests/library/test-refusals,@echo 'left out: test-refusals')
@@ -138,7 +142,7 @@ test-library:
 	tests/library/test-library $(PROGRAM) lib $(wildcard $(STRATEGY))
 
 test-dist:
-	$(if $(and $(wildcard $(PROGRAM).static),$(wildcard $(STRATEGY).static)),packaging/make-dist --check,@echo 'left out: test-dist')
+	$(if $(and $(wildcard $(PROGRAM).static),$(wildcard $(STRATEGY).static),$(wildcard $(GATES).static)),packaging/make-dist --check,@echo 'left out: test-dist')
 
 test-proofs:
 	tests/gate/test-proofs

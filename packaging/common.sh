@@ -7,7 +7,7 @@ version=$(cat VERSION)
 
 # The programs. What is built of NAME is bin/NAME, and bin/NAME.static with the C library inside.
 programs() {
-    printf '%s\n' qrp_cmd qrp_strategy
+    printf '%s\n' qrp_cmd qrp_strategy qrp_gates
 }
 
 # The tools are the executable files of tools/. The tool NAME is installed as the command qrp-NAME.

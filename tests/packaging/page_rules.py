@@ -71,6 +71,12 @@ RUN = [
     Run("python/README.md", "import qrp_check\nwith", "VERIFIED false\n", 'python3 "$block"'),
     Run("tests/traces/README.md", "depqbf ", "", TRACES),
     Run("man/qrp_cmd.1", "depqbf ", "VERIFIED true\n", 'bash "$block"; cmp f.trimmed.qrp examples/carry-from-tables/carry-from-tables.trimmed.qrp'),
+    Run(
+        "man/qrp_gates.1",
+        "qrp_gates ",
+        "VERIFIED true\n",
+        'printf "#QCIR-14\\nforall(a)\\nexists(b)\\noutput(g)\\ng = xor(a, b)\\n" > f.qcir; bash "$block"',
+    ),
     Run("man/qrp_strategy.1", "qrp_strategy ", "aag 17 3 0 20 14\naig 17 3 0 20 14\n", 'bash -e "$block"; head -q -n 1 strategy.aag strategy.aig'),
     Run("man/qrp-check.1", "qrp-check", "VERIFIED true\n"),
     Run(
