@@ -42,7 +42,7 @@ LIBDIR ?= $(PREFIX)/lib
 MANDIR ?= $(PREFIX)/share/man
 
 # what is tested of what is built, but for the tests of the libraries
-TESTS = test-program test-strategy test-derivations test-tools test-examples test-library test-dist test-install test-many test-proofs \
+TESTS = test-program test-strategy test-gates test-derivations test-tools test-examples test-library test-dist test-install test-many test-proofs \
 	test-definitions test-checks test-pages test-switches test-beside
 
 .PHONY: all lib static demo try check test programs linked check-programs gate bench dist wheel deb image install uninstall help
@@ -128,6 +128,9 @@ test-program:
 
 test-strategy:
 	tests/strategy/test-strategy $(STRATEGY) $(PROGRAM)
+
+test-gates:
+	tests/gates/test-gates $(GATES) $(PROGRAM)
 
 test-derivations:
 	tests/program/test-derivations $(PROGRAM)
