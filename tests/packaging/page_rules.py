@@ -19,6 +19,8 @@ RUN = [
     Run("docs/CI.md", "./qrp_cmd.static check f.qdimacs f.qrp |", "VERIFIED true\n"),
     Run("docs/DEPQBF.md", "status=0", "VERIFIED true\n"),
     Run("docs/DEPQBF.md", "depqbf ", "VERIFIED true\nVERIFIED true\nVERIFIED true\n", 'bash -e "$block" 2>&1 | grep -o "VERIFIED.*"'),
+    Run("docs/GATES.md", "qrp_gates clauses", "VERIFIED true\n", 'bash "$block"'),
+    Run("docs/GATES.md", "yosys -q", "confirmed\n", 'bash "$block"'),
     Run("docs/INSTALL.md", "tar xf", "VERIFIED false\n"),
     Run("docs/SOLVER.md", "/* pieces.c", "", 'cp "$block" pieces.c'),
     Run("docs/SOLVER.md", "cc pieces.c", "VERIFIED false\n"),

@@ -3,7 +3,7 @@
 PROGRAM is qrp_cmd, and qrp_gates has to be beside it. Random formulas by all gates are decided by trying all values of their variables, gate by
 gate, without a clause (gate_formulas.py); the solver DepQBF, if it is there, answers each by its clauses, and its proof has to be one of the gates.
 The winner's circuit is played against all moves. Texts that are cut or damaged are refused by the reader of the tools as the program refuses them.
-Then come the tools, which take a formula of gates where they take one in clauses.
+Then come the tools, which take a formula of gates where they take one in clauses, and the examples.
 """
 
 import json
@@ -265,15 +265,50 @@ def try_checks(use, question, clauses, trace, damaged, line):
     expect("check-many", found == [*["VERIFIED true"] * 3, line.strip()] and ended[0] == 1, ended)
 
 
+def try_examples(use):
+    """The stored formulas of gates are those that make them, and their stored proofs show what all values say."""
+    folder, examples = ROOT / "examples" / "gates", {"blind-box": False, "eight-matches": False, "arbiter": True}
+    expect("examples: all are known", {path.stem for path in folder.glob("*.qcir")} == set(examples))
+    for name, truth in examples.items():
+        path = folder / f"{name}.qcir"
+        ended = use.ask("check", path, folder / f"{name}.qrp")
+        expect(f"example {name}: its proof", ended[:2] == (0, f"VERIFIED {str(truth).lower()}\n"), ended)
+        expect(f"example {name}: all values", GateFormula(path.read_text()).truth() == truth)
+    words = ["--qcir", "--steps", "3", "--forall", "r*", "--exists", "g*", ROOT / "examples" / "arbiter" / "arbiter.aag"]
+    expect("example arbiter: as from-aiger makes it", use.tool("from-aiger", *words)[1] == (folder / "arbiter.qcir").read_text())
+    made = subprocess.run([folder / "make-matches"], capture_output=True, text=True, check=False).stdout
+    expect("example eight-matches: as its script makes it", made == (folder / "eight-matches.qcir").read_text())
+
+
+def try_verilog(use):
+    """From Verilog to a controller, which yosys confirms in the Verilog itself; one with an output turned is refused."""
+    if not shutil.which("yosys") or not shutil.which("depqbf"):
+        skip("a controller in Verilog", "there is no yosys, or no depqbf")
+        return
+    source, aiger = ROOT / "examples" / "arbiter" / "arbiter.v", use.folder / "watched.aig"
+    script = f"read_verilog -formal {source}; synth -flatten -top arbiter; async2sync; dffunmap; aigmap; write_aiger -symbols -zinit {aiger}"
+    subprocess.run(["yosys", "-q", "-p", script], capture_output=True, check=False)
+    question = use.file("watched.qcir", use.tool("from-aiger", "--qcir", "--steps", "3", "--forall", "r*", "--exists", "g*", aiger)[1])
+    trace = use.folder / "watched.qrp"
+    use.tool("solve", "--keep", trace, question)
+    controller = use.tool("explain-strategy", "--format", "verilog", question, trace)[1]
+    for name, text, wanted in (("right", controller, True), ("wrong", controller.replace("assign ga_1 = ", "assign ga_1 = ~"), False)):
+        files = f"{source} {use.file(f'{name}.v', text)} {ROOT}/examples/gates/three-steps.v"
+        script = f"read_verilog -formal {files}; prep -flatten -top three_steps; sat -verify -seq 3 -prove-asserts"
+        ended = subprocess.run(["yosys", "-q", "-p", script], capture_output=True, text=True, check=False)
+        is_shown = ended.returncode == 0 if wanted else "proof did fail" in ended.stdout + ended.stderr
+        expect(f"the controller in Verilog: {name}", is_shown, (ended, text))
+
+
 def main():
     with tempfile.TemporaryDirectory() as name:
         use = Use(os.path.abspath(sys.argv[1]), Path(name))
         if not Path(use.gates).is_file():
             skip("formulas of gates", f"there is no {use.gates}")
             return finish(0)
-        for case in try_random, try_played, try_damaged, try_tools:
+        for case in try_random, try_played, try_damaged, try_tools, try_examples, try_verilog:
             case(use)
-    return finish(7895)
+    return finish(7906)
 
 
 if __name__ == "__main__":
