@@ -4,3 +4,5 @@ pub mod Cut
 pub mod Winners
 pub mod Falsified
 pub mod Shown
+pub mod Counted
+pub mod StrategyOfBytes

@@ -6,6 +6,8 @@ mod clauses;
 #[cfg(test)]
 mod damaged;
 #[cfg(test)]
+mod strategies;
+#[cfg(test)]
 mod texts;
 #[cfg(test)]
 mod verdicts;

@@ -118,7 +118,7 @@ fn writes_the_canonical_text(rt: HostRuntime) -> Result<(), Fail> {
 }
 
 /// The variable or gate of this number has this name.
-fn assert_named(rt: &impl Abort, question: &Question, number: u32, wanted: &[u8]) {
+pub fn assert_named(rt: &impl Abort, question: &Question, number: u32, wanted: &[u8]) {
     let var = Var::new(number).expect(rt, "a variable");
     match question.name(var) {
         Some(name) => assert_eq!(rt; name, wanted),

@@ -2,7 +2,7 @@
 //!
 //! - Owns: the decisions of a proof, one for each step of its core that sets something, and the
 //!   circuit of them.
-//! - Offers: `find_strategy`, `decisions_of`, the laws.
+//! - Offers: `find_strategy`, `strategy_of`, `decisions_of`, the laws.
 //! - Proved: for all bytes, if `find_strategy` returns a strategy, they spell a formula and a trace,
 //!   and its circuit wins: in each run the matrix fails for `r unsat` and holds for `r sat`, and no
 //!   output depends on an input that is not in an earlier block. A refusal is that of the check.
@@ -23,4 +23,4 @@ mod strategy;
 pub use decisions::decisions_of;
 pub use fault::StrategyFault;
 pub use laws::{circuits_win, decisions_see_before, decisions_win};
-pub use strategy::{Strategy, find_strategy};
+pub use strategy::{Strategy, find_strategy, strategy_of};

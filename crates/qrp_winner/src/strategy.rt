@@ -72,7 +72,10 @@ fn circuit_for(
 }
 
 /// The strategy of the winner of a formula that was read, by the trace at a source.
-fn strategy_of<B: Source>(
+///
+/// # Errors
+/// As of `find_strategy`, but for the formula's.
+pub fn strategy_of<B: Source>(
     alloc: Global,
     formula: &Formula,
     trace: &mut B,
