@@ -270,7 +270,14 @@ def formula_of(words, path, seed, folder):
     else:
         ended = run(*words, path)
         status, text, said = ended.returncode, ended.stdout.decode(), ended.stderr.decode()
-    return status, text, (folder / "names").read_text() if status == 0 else "", said
+    names = (folder / "names").read_text() if status == 0 else ""
+    gates = re.search(r"exists (\d+) gates?:", said) if status == 0 else None
+    rows, _, last = names.partition("# gates: ")
+    count = int(gates[1]) if gates else 0
+    variables = int(re.search(r"; (\d+) variables?\n", said)[1]) if status == 0 else 0
+    is_told = last == (f"{variables - count + 1} to {variables}\n" if count else "")
+    expect(f"circuit {seed}: the names say which variables are gates", is_told, (names, said))
+    return status, text, rows, said
 
 
 def roles_of(question, seed, path, folder, pick):
@@ -534,10 +541,14 @@ def try_text(folder):
     path = folder / "half"
     path.write_text(HALF)
     ended = run("--exists", "x", "--names", folder / "names", path)
-    expect("the names of a gate", (folder / "names").read_text() == "1 x\n2 y\n3 both\n", (folder / "names").read_text())
+    expect("the names of a gate", (folder / "names").read_text() == "1 x\n2 y\n3 both\n# gates: 3 to 3\n", (folder / "names").read_text())
     path.write_text(HALF.replace("4\n6\n", "4\n7\n").replace("i1 y", "i1 both").replace("i0 x", "i0 -5 a"))
     run("--names", folder / "names", path)
-    expect("names that are taken or no names", (folder / "names").read_text() == "1 _-5_a\n2 both\n3 not_both\n", (folder / "names").read_text())
+    expect(
+        "names that are taken or no names",
+        (folder / "names").read_text() == "1 _-5_a\n2 both\n3 not_both\n# gates: 3 to 3\n",
+        (folder / "names").read_text(),
+    )
     path.write_text(HALF)
     ended = run("--exists", "x", path)
     wanted = "c 'half': the outputs are true\nc exists x, for all y, exists 1 gate: 1 clause of what has to hold\nc clause 4: both holds\n"
@@ -895,7 +906,7 @@ def main():
         for case in try_runs, try_replay, try_verilog:
             case(folder)
         try_lost_run(program, folder)
-    return finish(7611)
+    return finish(8736)
 
 
 if __name__ == "__main__":

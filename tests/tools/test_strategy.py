@@ -833,6 +833,17 @@ def try_gates(use):
     ):
         found = use.shown("--names", names, *words, "--circuit", path, formula)
         expect(f"free outputs {words}", found == wanted if wanted else "output z" in found and "both" not in found and "input" not in found, found)
+    told = use.write("told", names.read_text() + "# gates: 4 to 5\n")
+    for words, wanted in (
+        ([], head.format("3 outputs, 2 inputs, 0 gates") + "    z = true\n    free = false\n    negated = true\n"),
+        (["--only", "both,z"], head.format("2 outputs, 2 inputs, 1 gate") + "    z = true\n    both = x & y\n"),
+        (["--format", "table"], "z free negated\n1    0       1\n"),
+    ):
+        found = use.shown("--names", told, *words, "--circuit", path, formula)
+        expect(f"gates by the names {words}", found == wanted, found)
+    for form in "aag", "blif":
+        shown = [use.shown("--format", form, "--names", path_of_names, "--circuit", path, formula) for path_of_names in (names, told)]
+        expect(f"gates by the names, in {form}", shown[0] == shown[1], shown)
     found = use.shown("--only-free", f"{BOX}.qdimacs", f"{BOX}.qrp") if use.strategy.is_file() else ""
     expect("a universal winner has no gates", not found or found.startswith("the universal player's strategy: 5 outputs,"), found)
 
@@ -1027,7 +1038,7 @@ WITHOUT_PROGRAM = [
     try_gates,
     try_large,
 ]
-LEAST = 2060
+LEAST = 2065
 
 
 def main():

@@ -1,6 +1,7 @@
 """The user's names of variables. A part of tools/play, tools/solve, tools/explain and tools/draw-proof.
 
-A file of names has a variable and its name on each line; lines that begin with # are passed over. The names NAME[3], NAME[2] and so on are
+A file of names has a variable and its name on each line; lines that begin with # are passed over, but for '# gates: 9 to 200', which says that
+these variables are gates. The names NAME[3], NAME[2] and so on are
 those of a bus, the bits of a number.
 """
 
@@ -12,6 +13,7 @@ from qrptools.command import read_file, unusable
 from qrptools.words import GREATEST_VARIABLE
 
 LISTED = 20  # variables in a message
+GATES = re.compile(r"# gates: ([1-9][0-9]{0,8}) to ([1-9][0-9]{0,8})")
 BIT = re.compile(r"(.+)\[([0-9]{1,4})\]")
 NUMBER = re.compile(r"[0-9]+|0x[0-9a-fA-F]+|0b[01]+")
 FORMS = "write NAME, NAME=1, -NAME, !NAME or NAME=0, or BUS=NUMBER for the bits BUS[0], BUS[1] and so on; a number is a NAME too"
@@ -25,9 +27,13 @@ class Names:
         self.variables: dict[str, int] = {}
         self.buses: dict[str, dict[int, int]] = {}
         self.gates: frozenset[int] = frozenset()  # the variables that are known to be gates
+        self.has_values = False  # whether nobody chooses the values of these
         lines = read_file(path).decode(errors="surrogateescape").split("\n") if path else []
         for place, line in enumerate(lines, 1):
             words = line.split()
+            found = GATES.fullmatch(line.strip())
+            if found:
+                self.gates |= frozenset(range(int(found[1]), int(found[2]) + 1))
             if words and not words[0].startswith("#"):
                 self.take(words, f"{path}, line {place}")
 

@@ -100,7 +100,8 @@ class Encoding:
 
     def names(self) -> Iterator[str]:
         """The lines of the file of names: those of the inputs, in a step with its number before the bit of a bus, and of the gates that what
-        has to hold is about alone. A gate has the name of the output or the bad state that it is, with not_ before it if it is its negation."""
+        has to hold is about alone. A gate has the name of the output or the bad state that it is, with not_ before it if it is its negation. The last
+        line says which variables are gates."""
         seen: set[str] = set()
         called = [(literal, named(own, self.steps)) for literal, own in self.inputs.items()]
         called += [(gate, name) for gate, name in self.outputs().items() if gate in self.unrolled.gates]
@@ -109,6 +110,8 @@ class Encoding:
                 name += "'"
             seen.add(name)
             yield f"{self.variables[literal]} {name}\n"
+        if self.gates:
+            yield f"# gates: {len(self.inputs) + 1} to {len(self.variables)}\n"
 
     def outputs(self) -> dict[int, str]:
         found = {}

@@ -90,7 +90,7 @@ class QuestionNames(Names):
         super().__init__(path)
         if given:
             self.names, self.variables, self.buses = dict(given.names), dict(given.variables), given.buses
-        self.question, self.gates = question, frozenset(question.gates)
+        self.question, self.gates, self.has_values = question, frozenset(question.gates), True
         for variable, name in enumerate(question.names[1:], 1):
             if variable not in self.names:
                 self.names[variable] = name

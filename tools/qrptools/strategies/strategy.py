@@ -80,7 +80,7 @@ def read_strategy(path: str, formula: Formula, names: Names) -> Strategy:
     """The strategy that a file has for a formula. The command ends if it is not one."""
     reader = Reader(path, read_file(path))
     reader.read_header()
-    refuse_counts(path, reader.counts, formula, len(names.gates))
+    refuse_counts(path, reader.counts, formula, len(names.gates) if names.has_values else 0)
     circuit = reader.read()
     inputs = variables_of(path, circuit, "i", len(circuit.inputs), formula, names)
     outputs = variables_of(path, circuit, "o", len(circuit.outputs), formula, names)
