@@ -1,8 +1,8 @@
 -- The clauses of a gate hold exactly if its variable has the value of the gate.
 use Rattle.gate_clauses.proofs.Cited.{◌≡◌, ℕ, Bool, true, false, cond, not, beq, List, [], ◌∷◌, ◌∙◌, inl, inr, refl, sym, ap, map}
 use Rattle.gate_clauses.proofs.Cited.{subst, false≢true, Literal, positive, negative, negated, ◌∈◌, ClauseHolds, MatrixHolds}
-use Rattle.gate_clauses.proofs.Cited.{Gate, And, Or, Xor, Ite, inputs_of, all_set, any_set, gate_value, is_set, clauses_of}
-use Rattle.gate_clauses.proofs.Values.{in_set, set_in}
+use Rattle.gate_clauses.proofs.Cited.{Gate, And, Or, Xor, Ite, inputs_of, are_set, any_set, gate_value, is_set, clauses_of}
+use Rattle.qbf_completeness.proofs.Setting.{in_set, set_in}
 
 -- ---- clauses as tests
 
@@ -107,12 +107,12 @@ ite_table false false false false = refl
 abbrev pub IsOpposed : List Literal → Literal → Type 0
 IsOpposed s l = is_set (negated l) s ≡ not (is_set l s)
 
-any_negated : (ls s : List Literal) → ((l : Literal) → l ∈ ls → IsOpposed s l) → any_set (map negated ls) s ≡ not (all_set ls s)
+any_negated : (ls s : List Literal) → ((l : Literal) → l ∈ ls → IsOpposed s l) → any_set (map negated ls) s ≡ not (are_set ls s)
 any_negated [] s opposed = refl
 any_negated (l ∷ ls) s opposed =
     ap (λ (b : Bool). cond b true (any_set (map negated ls) s)) (opposed l (inl refl))
     ∙ (ap (λ (b : Bool). cond (not (is_set l s)) true b) (any_negated ls s (λ m h. opposed m (inr h)))
-    ∙ by (is_set l s) (all_set ls s))
+    ∙ by (is_set l s) (are_set ls s))
   where
     by : (b c : Bool) → cond (not b) true (not c) ≡ not (cond b c false)
     by true true = refl
@@ -121,7 +121,7 @@ any_negated (l ∷ ls) s opposed =
     by false false = refl
 
 each_follows : (v : ℕ) (x : Bool) (ls s : List Literal) → is_set (negative v) s ≡ not x
-    → all_hold (map (λ l. negative v ∷ l ∷ []) ls) s ≡ cond x (all_set ls s) true
+    → all_hold (map (λ l. negative v ∷ l ∷ []) ls) s ≡ cond x (are_set ls s) true
 each_follows v x [] s other = none x
   where
     none : (x : Bool) → true ≡ cond x true true
@@ -130,7 +130,7 @@ each_follows v x [] s other = none x
 each_follows v x (l ∷ ls) s other =
     ap (λ (b : Bool). cond (cond b true (cond (is_set l s) true false)) (all_hold (map (λ l. negative v ∷ l ∷ []) ls) s) false) other
     ∙ (ap (λ (b : Bool). cond (cond (not x) true (cond (is_set l s) true false)) b false) (each_follows v x ls s other)
-    ∙ by x (is_set l s) (all_set ls s))
+    ∙ by x (is_set l s) (are_set ls s))
   where
     by : (x b c : Bool) → cond (cond (not x) true (cond b true false)) (cond x c true) false ≡ cond x (cond b c false) true
     by true true c = refl
@@ -164,9 +164,9 @@ pub gate_holds : (v : ℕ) (g : Gate) (s : List Literal) → IsOpposed s (positi
 gate_holds v (And ls) s own opposed =
     ap (λ (b : Bool). cond (cond (is_set (positive v) s) true b) (all_hold (map (λ l. negative v ∷ l ∷ []) ls) s) false)
     (any_negated ls s opposed)
-    ∙ (ap (λ (b : Bool). cond (cond (is_set (positive v) s) true (not (all_set ls s))) b false)
+    ∙ (ap (λ (b : Bool). cond (cond (is_set (positive v) s) true (not (are_set ls s))) b false)
     (each_follows v (is_set (positive v) s) ls s own)
-    ∙ and_table (is_set (positive v) s) (all_set ls s))
+    ∙ and_table (is_set (positive v) s) (are_set ls s))
 gate_holds v (Or ls) s own opposed =
     ap (λ (b : Bool). cond (cond b true (any_set ls s)) (all_hold (map (λ l. positive v ∷ negated l ∷ []) ls) s) false) own
     ∙ (ap (λ (b : Bool). cond (cond (not (is_set (positive v) s)) true (any_set ls s)) b false) (each_refutes v ls s opposed)

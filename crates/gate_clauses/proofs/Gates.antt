@@ -7,7 +7,8 @@ use Rattle.gate_clauses.proofs.Cited.{Gate, IsOf, StandInOrder, inputs_of, gate_
 use Rattle.qbf_core.proofs.Bound.{all_in}
 use Rattle.qbf_core.proofs.Members.{append_left, append_right, beq_same, beq_refl, in_append}
 use Rattle.qbf_core.proofs.Game.{Leaf, leaf_keeps}
-use Rattle.gate_clauses.proofs.Values.{IsEither, either_of, in_set, kept_either, kept_value, negated_value, out_set, same_gate}
+use Rattle.qbf_completeness.proofs.Setting.{in_set}
+use Rattle.gate_clauses.proofs.Values.{IsEither, either_of, kept_either, kept_value, negated_value, out_set, same_gate}
 use Rattle.gate_clauses.proofs.ClauseValues.{all_hold, gate_holds, matrix_true, true_matrix}
 
 -- each of these variables is set

@@ -1,30 +1,9 @@
 -- The values of literals, by the literals that are set to true.
 use Rattle.gate_clauses.proofs.Cited.{◌≡◌, Bool, true, false, cond, not, List, [], ◌∷◌, ◌⊎◌, ◌∙◌, inl, inr, refl, sym, ap, subst}
-use Rattle.gate_clauses.proofs.Cited.{false≢true, cases_Bool, Literal, literal_eq, positive, negative, negated, ◌∈◌, ◌⊆◌, IsClean}
-use Rattle.gate_clauses.proofs.Cited.{Gate, And, Or, Xor, Ite, inputs_of, all_set, any_set, gate_value, is_set}
-use Rattle.qbf_core.proofs.Members.{lit_decides, lit_is}
-
-set_by : (b : Bool) (l m : Literal) (s : List Literal) → (b ≡ true → l ≡ m) → (is_set l s ≡ true → l ∈ s) → cond b true (is_set l s) ≡ true
-    → l ∈ (m ∷ s)
-set_by true l m s same later t = inl (same refl)
-set_by false l m s same later t = inr (later t)
-
-pub set_in : (l : Literal) (s : List Literal) → is_set l s ≡ true → l ∈ s
-set_in l [] t = absurd (false≢true t)
-set_in l (m ∷ s) t = set_by (literal_eq l m) l m s (lit_decides l m).0 (set_in l s) t
-
-by_first : (b c : Bool) → b ≡ true → cond b true c ≡ true
-by_first true c e = refl
-by_first false c e = absurd (false≢true e)
-
-by_second : (b c : Bool) → c ≡ true → cond b true c ≡ true
-by_second true c e = refl
-by_second false c e = e
-
-pub in_set : (l : Literal) (s : List Literal) → l ∈ s → is_set l s ≡ true
-in_set l [] h = absurd h
-in_set l (m ∷ s) (inl e) = by_first (literal_eq l m) (is_set l s) ((lit_decides l m).1 e)
-in_set l (m ∷ s) (inr h) = by_second (literal_eq l m) (is_set l s) (in_set l s h)
+use Rattle.gate_clauses.proofs.Cited.{cases_Bool, Literal, positive, negative, negated, ◌∈◌, ◌⊆◌, IsClean}
+use Rattle.gate_clauses.proofs.Cited.{Gate, And, Or, Xor, Ite, inputs_of, are_set, any_set, gate_value, is_set}
+use Rattle.qbf_core.proofs.Members.{lit_is}
+use Rattle.qbf_completeness.proofs.Setting.{in_set, set_in}
 
 pub out_set : (l : Literal) (s : List Literal) → (l ∈ s → ⊥) → is_set l s ≡ false
 out_set l s out = elim (cases_Bool (is_set l s)) [ inl t ↦ absurd (out (set_in l s t)) | inr f ↦ f ]
@@ -56,10 +35,10 @@ either_of s l h = elim (lit_is l l.var refl) [
 ]
 
 -- a gate whose inputs have the same values
-same_all : (ls s u : List Literal) → ((l : Literal) → l ∈ ls → is_set l u ≡ is_set l s) → all_set ls u ≡ all_set ls s
+same_all : (ls s u : List Literal) → ((l : Literal) → l ∈ ls → is_set l u ≡ is_set l s) → are_set ls u ≡ are_set ls s
 same_all [] s u same = refl
 same_all (l ∷ ls) s u same =
-    ap (λ (b : Bool). cond b (all_set ls u) false) (same l (inl refl))
+    ap (λ (b : Bool). cond b (are_set ls u) false) (same l (inl refl))
     ∙ ap (λ (b : Bool). cond (is_set l s) b false) (same_all ls s u (λ m h. same m (inr h)))
 
 same_any : (ls s u : List Literal) → ((l : Literal) → l ∈ ls → is_set l u ≡ is_set l s) → any_set ls u ≡ any_set ls s

@@ -1,3 +1,4 @@
+pub mod Setting
 pub mod SameBlock
 pub mod Players
 pub mod Deriving

@@ -1,3 +1,4 @@
 pub mod Derivations
 pub mod Laws
+pub mod Setting
 pub mod Strategies

@@ -24,7 +24,8 @@ use Rattle.qbf_strategy.specs.Chosen.{next_input, outputs_of}
 use Rattle.qbf_strategy.specs.Costs.{cost_all, cost_among}
 use Rattle.qbf_strategy.specs.Computing.{Computes}
 use Rattle.qbf_strategy.specs.Conditions.{AreConditions, fires, scene}
-use Rattle.qbf_strategy.specs.Decisions.{Decision, are_set, decisions_by, wanted}
+use Rattle.qbf_completeness.specs.Setting.{are_set}
+use Rattle.qbf_strategy.specs.Decisions.{Decision, decisions_by, wanted}
 use Rattle.qbf_strategy.specs.Winning.{input_literals, opponent, set_in_run, variables_of}
 use Rattle.qbf_strategy.proofs.AssembledWires.{input_left, inputs_after, next_after, outputs_mine, outputs_theirs, run_tells}
 use Rattle.qbf_strategy.proofs.GateCosts.{cost_next, cost_within}

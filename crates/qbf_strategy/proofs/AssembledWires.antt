@@ -15,7 +15,7 @@ use Rattle.qbf_completeness.specs.Strategies.{literal_of}
 use Rattle.aiger.specs.Wires.{Wire, plain, value_at}
 use Rattle.qbf_strategy.specs.Assembling.{Tells}
 use Rattle.qbf_strategy.specs.Chosen.{AreInputs, next_input, number_after, outputs_of}
-use Rattle.qbf_strategy.specs.Decisions.{is_set}
+use Rattle.qbf_completeness.specs.Setting.{is_set}
 use Rattle.qbf_strategy.specs.Winning.{input_literals, opponent, variables_of}
 use Rattle.qbf_strategy.proofs.ChainedEntries.{at_in, not_self}
 use Rattle.aiger.proofs.TrimmedGates.{turned_value}

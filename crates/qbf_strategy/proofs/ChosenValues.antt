@@ -11,7 +11,8 @@ use Rattle.qbf_strategy.specs.Chains.{Chain, Sayings, evaluated, with_lists, wit
 use Rattle.qbf_strategy.specs.Chosen.{HasChain, IsChosen, IsChosenAfter}
 use Rattle.qbf_strategy.specs.Conditions.{AreConditions, IsDecided, IsReady, Scene, fires}
 use Rattle.qbf_strategy.specs.Costs.{cost, cost_among}
-use Rattle.qbf_strategy.specs.Decisions.{are_set, decided, decisions_by, value_in, wanted}
+use Rattle.qbf_completeness.specs.Setting.{are_set}
+use Rattle.qbf_strategy.specs.Decisions.{decided, decisions_by, value_in, wanted}
 use Rattle.qbf_strategy.proofs.ChainedEntries.{chain_none, chain_some, chain_within}
 use Rattle.aiger.proofs.KeptGates.{grows_same, grows_then, values_before}
 

@@ -1,6 +1,6 @@
 -- A circuit that computes decisions is a winning strategy, if whoever keeps to the decisions wins.
 use Rattle.qbf_core.proofs.Cited.{arith, ◌≡◌, ◌<◌, ◌≤◌, ◌+◌, ℕ, zero, suc, Bool, true, false, cond, eqb, List, [], ◌∷◌, ◌++◌, ◌⊎◌, inl, inr}
-use Rattle.qbf_core.proofs.Cited.{refl, sym, ap, ◌∙◌, subst, false≢true, map, Some, slice_get, Literal, positive, negative, negated}
+use Rattle.qbf_core.proofs.Cited.{refl, sym, ap, ◌∙◌, subst, map, Some, slice_get, Literal, positive, negative, negated}
 use Rattle.qbf_core.proofs.Cited.{◌∈◌, IsClean, is_quantifier, variables}
 use Rattle.qbf_core.specs.Rules.{IsTotal}
 use Rattle.qbf_core.specs.Blocks.{Binds, IsBefore, IsBound, pairs}
@@ -16,9 +16,10 @@ use Rattle.aiger.specs.Circuits.{Circuit, IsRun, KeepsGates, StandBelow, both, f
 use Rattle.aiger.specs.Wires.{Wire, value_at}
 use Rattle.qbf_completeness.specs.Strategies.{literal_of}
 use Rattle.qbf_strategy.specs.Computing.{Computes}
-use Rattle.qbf_strategy.specs.Decisions.{Decision, is_set, decided}
+use Rattle.qbf_completeness.specs.Setting.{is_set}
+use Rattle.qbf_strategy.specs.Decisions.{Decision, decided}
 use Rattle.qbf_strategy.specs.Winning.{IsWon, IsWinningCircuit, input_literals, opponent, set_in_run, variables_of}
-use Rattle.qbf_strategy.proofs.Setting.{set_in, in_set}
+use Rattle.qbf_completeness.proofs.Setting.{in_set, set_in}
 use Rattle.qbf_strategy.proofs.Played.{decided_alike}
 
 -- ---- the values of a run

@@ -12,7 +12,8 @@ use Rattle.aiger.specs.Wires.{Wire, constant, opposite, value_at}
 use Rattle.aiger.proofs.TrimmedGates.{turned_value, turned_var}
 use Rattle.aiger.proofs.Folds.{constant_value, opposite_value}
 use Rattle.aiger.proofs.KeptGates.{grows_same, grows_then, next_grows, values_before}
-use Rattle.qbf_strategy.specs.Decisions.{are_set, wanted}
+use Rattle.qbf_completeness.specs.Setting.{are_set}
+use Rattle.qbf_strategy.specs.Decisions.{wanted}
 use Rattle.qbf_strategy.specs.Assembling.{AllBelow, ArePlaced, Tells, all_true, wires_of}
 use Rattle.aiger.specs.Wires.{turned}
 use Rattle.qbf_strategy.specs.Conditions.{AreConditions, GivesCondition, IsCondition, IsConjunction, IsConjunctionBefore, IsDecided}

@@ -20,7 +20,8 @@ use Rattle.qbf_strategy.specs.Assembling.{AllBelow, ArePlaced, all_true, wires_o
 use Rattle.qbf_strategy.specs.Chains.{Chain, evaluated}
 use Rattle.qbf_strategy.specs.Chosen.{HasChain, IsChosen}
 use Rattle.qbf_strategy.specs.Conditions.{AreConditions, IsConjunction, IsEither, IsReady, Scene, fires}
-use Rattle.qbf_strategy.specs.Decisions.{are_set, wanted}
+use Rattle.qbf_completeness.specs.Setting.{are_set}
+use Rattle.qbf_strategy.specs.Decisions.{wanted}
 use Rattle.qbf_strategy.specs.Paths.{HasTurned, IsChosenInside, IsEntered, IsMoved, IsSet, StandsBelow, TakesFirst, TurnsBelow}
 use Rattle.qbf_strategy.specs.Paths.{all_taken, inside, value_by}
 use Rattle.qbf_strategy.proofs.ChainedEntries.{chain_none, chain_some, chain_within}

@@ -7,7 +7,8 @@ use Rattle.qbf_core.proofs.Members.{lit_is}
 use Rattle.qbf_core.proofs.Game.{Leaf, leaf_keeps}
 use Rattle.qbf_core.proofs.Reduction.{Ascending}
 use Rattle.qbf_completeness.specs.Strategies.{literal_of}
-use Rattle.qbf_strategy.specs.Decisions.{Decision, is_set, are_set, value_in, decided, play_by}
+use Rattle.qbf_completeness.specs.Setting.{are_set, is_set}
+use Rattle.qbf_strategy.specs.Decisions.{Decision, value_in, decided, play_by}
 use Rattle.qbf_strategy.proofs.Setting.{all_set, set_all}
 
 leaf_by : (b : Bool) (v : ℕ) (q : Quantifier) (rest : List (Quantifier × ℕ)) (s : List Literal) (end : Literal → List Literal)

@@ -1,31 +1,11 @@
 -- Tests of literals that are set, and what a list of decisions decides.
 use Rattle.qbf_core.proofs.Cited.{arith, ◌≡◌, ◌<◌, ℕ, zero, suc, Bool, true, false, cond, List, [], ◌∷◌, inl, inr, refl, sym, ap}
-use Rattle.qbf_core.proofs.Cited.{subst, Some, slice_get, eqb_tells, false≢true, Literal, literal_eq, ◌∈◌, ◌⊆◌, IsClean}
-use Rattle.qbf_core.proofs.Members.{lit_decides, only_literal}
+use Rattle.qbf_core.proofs.Cited.{subst, Some, slice_get, eqb_tells, false≢true, Literal, ◌∈◌, ◌⊆◌, IsClean}
+use Rattle.qbf_core.proofs.Members.{only_literal}
 use Rattle.std.proofs.Common.{not}
-use Rattle.qbf_strategy.specs.Decisions.{Decision, is_set, are_set, value_in, decided}
-
-set_by : (b : Bool) (l m : Literal) (s : List Literal) → (b ≡ true → l ≡ m) → (is_set l s ≡ true → l ∈ s) → cond b true (is_set l s) ≡ true
-    → l ∈ (m ∷ s)
-set_by true l m s same later t = inl (same refl)
-set_by false l m s same later t = inr (later t)
-
-pub set_in : (l : Literal) (s : List Literal) → is_set l s ≡ true → l ∈ s
-set_in l [] t = absurd (false≢true t)
-set_in l (m ∷ s) t = set_by (literal_eq l m) l m s (lit_decides l m).0 (set_in l s) t
-
-by_first : (b c : Bool) → b ≡ true → cond b true c ≡ true
-by_first true c e = refl
-by_first false c e = absurd (false≢true e)
-
-by_second : (b c : Bool) → c ≡ true → cond b true c ≡ true
-by_second true c e = refl
-by_second false c e = e
-
-pub in_set : (l : Literal) (s : List Literal) → l ∈ s → is_set l s ≡ true
-in_set l [] h = absurd h
-in_set l (m ∷ s) (inl e) = by_first (literal_eq l m) (is_set l s) ((lit_decides l m).1 e)
-in_set l (m ∷ s) (inr h) = by_second (literal_eq l m) (is_set l s) (in_set l s h)
+use Rattle.qbf_completeness.specs.Setting.{are_set, is_set}
+use Rattle.qbf_completeness.proofs.Setting.{in_set, set_in}
+use Rattle.qbf_strategy.specs.Decisions.{Decision, value_in, decided}
 
 both_of : (b c : Bool) → cond b c false ≡ true → (b ≡ true) × (c ≡ true)
 both_of true c e = (refl, e)

@@ -8,7 +8,8 @@ use Rattle.qbf_core.specs.Members.{◌∈◌}
 use Rattle.aiger.specs.Circuits.{both}
 use Rattle.aiger.specs.Wires.{Wire, turned, value_at}
 use Rattle.qbf_strategy.specs.declared.placed.Placed.{Placed}
-use Rattle.qbf_strategy.specs.Decisions.{are_set, is_set, wanted}
+use Rattle.qbf_completeness.specs.Setting.{are_set, is_set}
+use Rattle.qbf_strategy.specs.Decisions.{wanted}
 
 -- the variable v stands at the place i
 abbrev pub IsAt : List (Quantifier × ℕ) → ℕ → ℕ → Type 0

@@ -6,7 +6,8 @@ use Rattle.qbf_core.specs.Literal.{Literal}
 use Rattle.aiger.specs.Building.{Built, Grows, HasValues, next_of}
 use Rattle.aiger.specs.Circuits.{both}
 use Rattle.aiger.specs.Wires.{Wire, constant, value_at}
-use Rattle.qbf_strategy.specs.Decisions.{are_set, wanted}
+use Rattle.qbf_completeness.specs.Setting.{are_set}
+use Rattle.qbf_strategy.specs.Decisions.{wanted}
 use Rattle.qbf_strategy.specs.Assembling.{AreAmong, Tells, all_true}
 use Rattle.qbf_strategy.specs.Costs.{cost}
 

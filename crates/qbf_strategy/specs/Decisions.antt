@@ -1,26 +1,17 @@
 -- The strategy of a player as a list of decisions, and the play of a player who keeps to them. A player is named by the quantifier of its
 -- variables.
-use Rattle.std.specs.Prelude.{ℕ, ◌==◌, Bool, true, false, not, if◌then◌else◌, List, [], ◌∷◌, map}
+use Rattle.std.specs.Prelude.{ℕ, ◌==◌, Bool, not, if◌then◌else◌, List, [], ◌∷◌, map}
 use Rattle.qbf_core.specs.declared.quantifier.Quantifier.{Quantifier}
 use Rattle.qbf_core.specs.declared.quantifier.Quantifier.TheVariants.{All, Exists}
-use Rattle.qbf_core.specs.Literal.{Literal, literal_eq, negated}
+use Rattle.qbf_core.specs.Literal.{Literal, negated}
 use Rattle.qbf_core.specs.Blocks.{is_quantifier}
+use Rattle.qbf_completeness.specs.Setting.{are_set}
 use Rattle.qbf_completeness.specs.Strategies.{literal_of}
 
 -- if all literals of `when` are set, those of `sets` are to be set, but for variables that an earlier decision sets
 pub record Decision : Type 0 where
   pub when : List Literal
   pub sets : List Literal
-
--- whether the literal l is set
-abbrev pub is_set : Literal → List Literal → Bool
-is_set l [] = false
-is_set l (m ∷ s) = if literal_eq l m then true else is_set l s
-
--- whether all of these literals are set
-abbrev pub are_set : List Literal → List Literal → Bool
-are_set [] s = true
-are_set (l ∷ ls) s = if is_set l s then are_set ls s else false
 
 -- the value that the first literal of the variable v gives it, or the value `otherwise` if there is none
 abbrev pub value_in : List Literal → ℕ → (otherwise : Bool) → Bool

@@ -7,7 +7,8 @@ use Rattle.qbf_core.specs.Rules.{reduced_quantifier}
 use Rattle.qbf_core.specs.declared.quantifier.Quantifier.{Quantifier}
 use Rattle.aiger.specs.Circuits.{Circuit}
 use Rattle.qbf_strategy.specs.Computing.{Computes, SeesBefore, size}
-use Rattle.qbf_strategy.specs.Decisions.{Decision, are_set, decided, value_in}
+use Rattle.qbf_completeness.specs.Setting.{are_set}
+use Rattle.qbf_strategy.specs.Decisions.{Decision, decided, value_in}
 use Rattle.qbf_strategy.specs.Winning.{IsWinningCircuit, set_in_run}
 use Rattle.trace_items.specs.Inferences.{Inference}
 use Rattle.trace_items.specs.declared.item.Outcome.{Outcome}

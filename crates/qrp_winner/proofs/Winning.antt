@@ -16,7 +16,8 @@ use Rattle.qbf_completeness.proofs.Players.{mine_is}
 use Rattle.qbf_core.proofs.Leaves.{leaf_is_clean, leaf_is_total, pairs_ascend}
 use Rattle.core_walk.proofs.NamedSteps.{need_of}
 use Rattle.qbf_completeness.specs.Strategies.{literal_of}
-use Rattle.qbf_strategy.specs.Decisions.{Decision, are_set, decided, play_by, wanted}
+use Rattle.qbf_completeness.specs.Setting.{are_set}
+use Rattle.qbf_strategy.specs.Decisions.{Decision, decided, play_by, wanted}
 use Rattle.qrp_winner.specs.ProofDecisions.{IsNeeded, IsFullyReduced, CoversParent, CoversInitial, Covers, IsDecisionAt, AreDecisionsOf}
 use Rattle.qbf_strategy.specs.Winning.{IsWon}
 use Rattle.qrp_winner.specs.Laws.{DecisionsWin}
