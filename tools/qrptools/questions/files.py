@@ -6,7 +6,7 @@ import os
 import subprocess
 from typing import NamedTuple, Optional
 
-from qrptools.command import called_as, finding, read_file, temporary_folder, writing
+from qrptools.command import called_as, finding, read_file, temporary_folder, unusable, writing
 from qrptools.names import Names
 from qrptools.program import GATES, keep, run_program, why_not
 from qrptools.questions.reader import Gate, Question, QuestionFault, is_question, read_question
@@ -32,7 +32,7 @@ class Asked(NamedTuple):
         if line.startswith("REFUSED "):
             raise finding(f"{GATES} refuses the proof: {line}; '{called_as('explain')} FORMULA TRACE' says why")
         if status:
-            raise finding(f"{GATES} does not check the proof: {why_not(line, status, self.path, trace, GATES)}")
+            raise unusable(f"{GATES} does not check the proof: {why_not(line, status, self.path, trace, GATES)}")
 
 
 def is_file_of_gates(path: str) -> bool:
@@ -57,7 +57,7 @@ def asked(path: str, names: Optional[str], folder: str) -> Asked:
     if line.startswith("REFUSED "):
         raise finding(f"{GATES} refuses the formula: {line}; '{called_as('explain')} FORMULA' says why")
     if status:
-        raise finding(f"{GATES} makes no clauses: {why_not(line, status, path, path, GATES)}")
+        raise unusable(f"{GATES} makes no clauses: {why_not(line, status, path, path, GATES)}")
     question = question_of(path)
     return Asked(path, clauses, QuestionNames(question, names), question)
 

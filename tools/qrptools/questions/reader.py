@@ -15,6 +15,8 @@ HEADER = re.compile(rb"[ \t\r]*#[ \t\r]*QCIR[ \t\r]*-[ \t\r]*G?14[ \t\r]*(?:(?<=
 BEGINNING = re.compile(rb"[ \t\r]*#[ \t\r]*QCIR[ \t\r]*-")  # of what is meant to be such a formula
 TOKEN = re.compile(rb"[A-Za-z0-9_]+|[^ \t\r]")
 WORD = re.compile(rb"[A-Za-z0-9_]+")
+LITERAL = rb"[ \t\r]*-?[ \t\r]*[A-Za-z0-9_]+[ \t\r]*"
+GATE = re.compile(rb"[ \t\r]*([A-Za-z0-9_]+)[ \t\r]*=[ \t\r]*(and|or|xor|ite)[ \t\r]*\((%b(?:,%b)*|[ \t\r]*)\)[ \t\r]*" % (LITERAL, LITERAL))
 QUANTIFIERS = {b"exists": EXISTS, b"forall": FOR_ALL}
 SIZES = {b"and": None, b"or": None, b"xor": 2, b"ite": 3}  # how many inputs a gate of each kind has; None if it may have any number
 SETS = "exists(..) or forall(..)"
@@ -108,6 +110,8 @@ class Reader:
         if not HEADER.fullmatch(lines[0]):
             raise QuestionFault("Q2", 1, lines[0], None, "the first line has to be '#QCIR-14', or '#QCIR-G14', with a number or without")
         for number, text in enumerate(lines[1:], 2):
+            if self.output is not None and self.take_gate(text, number):
+                continue
             line = Line(text, number)
             if line.is_done() or line.take(b"#"):
                 continue
@@ -178,6 +182,25 @@ class Reader:
             raise QuestionFault("Q8", line.number, line.text, line.tokens[2][1], f"{word.decode()} has {size} inputs, and here it has {len(inputs)}")
         line.at = 1
         self.question.gates[self.give(name, line, 1)] = Gate(word.decode(), inputs, line.number)
+
+    def take_gate(self, text: bytes, number: int) -> bool:
+        """Takes the gate of a line at once, if there is one and nothing is wrong with it."""
+        found = GATE.fullmatch(text)
+        if not found or found[1] in self.numbers or len(self.numbers) == GREATEST_VARIABLE:
+            return False
+        words = found[3].translate(None, b" \t\r").split(b",")
+        known, inputs = self.numbers.get, []
+        for word in words if words != [b""] else []:
+            literal = -known(word[1:], 0) if word[:1] == b"-" else known(word, 0)
+            if not literal:
+                return False
+            inputs.append(literal)
+        if SIZES[found[2]] not in (None, len(inputs)):
+            return False
+        self.numbers[found[1]] = variable = len(self.numbers) + 1
+        self.question.names.append(found[1].decode())
+        self.question.gates[variable] = Gate(found[2].decode(), inputs, number)
+        return True
 
     def inputs(self, line: Line) -> list[int]:
         """The inputs of a gate, up to the end of the line."""
