@@ -242,7 +242,7 @@ NEXT = [
 
 TRACE_OPTIONS = "DepQBF writes a trace only with `--trace=qrp --dep-man=simple --no-qbce-dynamic` and a learning mode: docs/DEPQBF.md"
 SAY_TRACE = "have the solver write a trace in QRP: `--trace=qrp`"
-QDIMACS = "turn it into QDIMACS"
+QDIMACS = "turn it into QDIMACS: `qrp_gates clauses FILE > FORMULA` does that for QCIR-14"
 TEXT_FORM = "have the solver write the text form: `--trace=qrp`"
 KINDS = [
     ("no formula", "The formula is empty", "give the whole file: what wrote this one wrote nothing"),
