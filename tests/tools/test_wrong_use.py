@@ -419,6 +419,19 @@ def try_old_systems(program):
 
 # Each function says its types, and each body is looked at.
 MYPY = ["mypy", "--disallow-untyped-defs", "--check-untyped-defs", "--scripts-are-modules"]
+TYPED_TESTS = [
+    "tests/expect.py",
+    "tests/pages.py",
+    "tests/bench/test-beside",
+    "tests/documents/test-pages",
+    "tests/gate/made_up_toolchain.py",
+    "tests/gate/test-checks",
+    "tests/gate/test-definitions",
+    "tests/library/test_solvers.py",
+    "tests/packaging/follow-pages",
+    "tests/packaging/unpack_image.py",
+    "tests/program/test-derivations",
+]
 
 
 def try_types():
@@ -445,6 +458,11 @@ def try_types():
             environment = {**os.environ, "MYPYPATH": others} if name == "bench" else None
             ended = subprocess.run(words, cwd=ROOT / name, env=environment, capture_output=True, text=True, check=False)
         expect(f"the types of the modules of {name}", ended.returncode == 0, ended.stdout)
+    with tempfile.TemporaryDirectory() as folder:
+        words = [*MYPY, "--follow-imports", "silent", "--python-version", "3.10", "--cache-dir", folder, *TYPED_TESTS]
+        others = os.pathsep.join(str(ROOT / name) for name in ("bench", "gate", "tests", "tests/gate", "tests/tools"))
+        ended = subprocess.run(words, cwd=ROOT, env={**os.environ, "MYPYPATH": others}, capture_output=True, text=True, check=False)
+    expect("the types of tests", ended.returncode == 0, ended.stdout)
 
 
 def is_python(path):
