@@ -1,1 +1,2 @@
 pub mod ProgramReport
+pub mod StrategyWords

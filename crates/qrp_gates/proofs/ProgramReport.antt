@@ -1,7 +1,9 @@
 -- From what was checked or made to the report of a job.
-use Rattle.std.proofs.Common.{arith, ◌≡◌, ◌∙◌, ◌⊎◌, ℕ, Bool, List, Option, Some, IfSome, inl, inr, refl, sym, subst, Result, Ok, Err}
+use Rattle.std.proofs.Common.{arith, ◌≡◌, ◌∙◌, ◌⊎◌, ℕ, Bool, List, Option, Some, IfSome, inl, inr, refl, sym, subst, Result, Ok, Err, IfOk}
 use Rattle.std.proofs.lemmas.Grind.{common_steps}
 use Rattle.std.specs.Io.KnownBytes.{Appends}
+use Rattle.aiger.specs.Formats.{circuit_text}
+use Rattle.circuit_cli.specs.Output.{no_circuit}
 use Rattle.qbf_core.specs.Qbf.{Qbf}
 use Rattle.qbf_text.specs.declared.sink.Sink as sinks
 use Rattle.qcir.specs.Reading.{Question, read_gates}
@@ -9,6 +11,8 @@ use Rattle.qcir.specs.declared.fault.QuestionFault.{QuestionFault}
 use Rattle.qcir.proofs.Spelled.{reads_questions}
 use Rattle.qdimacs.specs.Grammar.{text}
 use Rattle.qrp_check.specs.Checked.{SourceCall}
+use Rattle.qrp_check.specs.declared.fault.CheckFault.TheVariants.{C5}
+use Rattle.qrp_check.specs.declared.verdict.Fault.TheVariants as proof
 use Rattle.qrp_rules.specs.declared.rules.Rules.{Rules}
 use Rattle.qrp_program.specs.Output.{IsOn, IsReported, IsReportedTo}
 use Rattle.qrp_report.specs.Lines.{verdict_line}
@@ -19,8 +23,12 @@ use Rattle.gate_verify.specs.Laws.{in_clauses}
 use Rattle.gate_verify.specs.Made.{AreClausesOf, AreMade}
 use Rattle.gate_verify.specs.declared.fault.Unverified.{Unverified}
 use Rattle.gate_verify.specs.declared.fault.Unverified.TheVariants as fault
+use Rattle.gate_strategy.specs.Strategies.{IsOfVerdict, IsOfWinner}
+use Rattle.gate_strategy.specs.declared.fault.GateStrategyFault.{GateStrategyFault}
+use Rattle.gate_strategy.specs.declared.fault.GateStrategyFault.TheVariants as faults
+use Rattle.qrp_winner.specs.declared.strategy.Strategy.{Strategy}
 use Rattle.qrp_gates.specs.Lines.{question_number, question_status, refusal_line, refusal_status}
-use Rattle.qrp_gates.specs.Output.{PrintsVerdict, WritesClauses, check_report, clauses_report}
+use Rattle.qrp_gates.specs.Output.{PrintsVerdict, WritesClauses, WritesStrategy, check_report, clauses_report, strategy_report}
 use Rattle.qrp_gates.specs.declared.job.Job.TheVariants as job
 
 -- a check is reported on the first sink
@@ -81,3 +89,32 @@ pub of_clauses : {O E : Type 0} (o : sinks.Ghosts O) (out out2 : O) (e : sinks.G
 of_clauses o out out2 e errors errors2 (Ok f) returned sent zero = sent.0
 of_clauses o out out2 e errors errors2 (Err g) returned sent zero =
     absurd (is_refused g (cli.sent_whole e errors errors2 (refusal_line g) (refusal_status g) returned sent.0 zero).1)
+
+-- the job of a strategy has one pair of rules and format
+pub same_format : (r s : Rules) (a b : Bool) → job.Strategy r a ≡ job.Strategy s b → a ≡ b
+same_format r s a b e = cc e
+
+-- a report of a circuit that was made goes to the first sink
+pub of_strategy : {O E : Type 0} (o : sinks.Ghosts O) (out out2 : O) (e : sinks.Ghosts E) (errors errors2 : E) (binary : Bool)
+    (found : Result (Question × Strategy) GateStrategyFault) (returned : ℕ)
+    → IsReported o out out2 e errors errors2 (strategy_report binary found) returned → returned ≡ 0
+    → (w : Question × Strategy) × (found ≡ Ok w) × Appends (o.written out) (o.written out2) (circuit_text binary w.1.circuit)
+of_strategy o out out2 e errors errors2 binary (Ok w) returned sent zero =
+    (w, refl, (cli.sent_whole o out out2 (circuit_text binary w.1.circuit) 0 returned sent.0 zero).0)
+of_strategy o out out2 e errors errors2 binary (Err (faults.Check g)) returned sent zero =
+    absurd (is_refused g (cli.sent_whole e errors errors2 (refusal_line g) (refusal_status g) returned sent.0 zero).1)
+of_strategy o out out2 e errors errors2 binary (Err faults.NoMemory) returned sent zero =
+    let g : Unverified = fault.Proof (proof.Check C5) in
+    absurd (is_refused g (cli.sent_whole e errors errors2 (refusal_line g) (refusal_status g) returned sent.0 zero).1)
+of_strategy o out out2 e errors errors2 binary (Err faults.NoCircuit) returned sent zero =
+    let four : ◌≡◌ {A = ℕ} 4 0 = (cli.sent_whole e errors errors2 no_circuit.text 4 returned sent.0 zero).1 in absurd (omega (arith, four))
+
+-- with status 0 a strategy writes the text of a circuit by which the winner wins
+pub writes_strategy : {O E : Type 0} (o : sinks.Ghosts O) (out out2 : O) (e : sinks.Ghosts E) (errors errors2 : E) (rules : Rules)
+    (binary : Bool) (question trace : SourceCall) (a b : List ℕ) (found : Result (Question × Strategy) GateStrategyFault) (returned : ℕ)
+    → IsOfVerdict rules question trace found → question.bytes ≡ Some a → trace.bytes ≡ Some b
+    → IsReported o out out2 e errors errors2 (strategy_report binary found) returned → returned ≡ 0 → WritesStrategy o out out2 binary a b
+writes_strategy o out out2 e errors errors2 rules binary question trace a b found returned of is_a is_b sent zero =
+    let w = of_strategy o out out2 e errors errors2 binary found returned sent zero in
+    let wins : IfOk found (IsOfWinner a b) = rw is_b at (rw is_a at of.5) in
+    (w.0, subst (λ (r : Result (Question × Strategy) GateStrategyFault). IfOk r (IsOfWinner a b)) w.1 wins, w.2)

@@ -1,12 +1,16 @@
 -- The report of each job.
 use Rattle.std.specs.Prelude.{◌≡◌, ℕ, Bool, List, Result, Ok, Err}
 use Rattle.std.specs.Io.KnownBytes.{Appends}
+use Rattle.aiger.specs.Formats.{circuit_text}
+use Rattle.circuit_cli.specs.Output.{no_circuit}
 use Rattle.qbf_core.specs.Qbf.{Qbf}
 use Rattle.qbf_text.specs.declared.sink.Sink.{Ghosts}
 use Rattle.qcir.specs.Grammar.{IsQuestion}
 use Rattle.qcir.specs.Reading.{Question}
 use Rattle.qdimacs.specs.Grammar.{text}
 use Rattle.qrp_check.specs.Checked.{SourceCall}
+use Rattle.qrp_check.specs.declared.fault.CheckFault.TheVariants.{C5}
+use Rattle.qrp_check.specs.declared.verdict.Fault.TheVariants as proof
 use Rattle.qrp_rules.specs.declared.rules.Rules.{Rules}
 use Rattle.qrp_program.specs.Output.{Report, success}
 use Rattle.qrp_program.specs.declared.stream.Stream.{Stream}
@@ -17,13 +21,19 @@ use Rattle.gate_verify.specs.Headline.{Headline}
 use Rattle.gate_verify.specs.Laws.{in_clauses}
 use Rattle.gate_verify.specs.Made.{AreMade}
 use Rattle.gate_verify.specs.declared.fault.Unverified.{Unverified}
+use Rattle.gate_verify.specs.declared.fault.Unverified.TheVariants as fault
+use Rattle.gate_strategy.specs.Strategies.{IsOfVerdict, IsOfWinner}
+use Rattle.gate_strategy.specs.declared.fault.GateStrategyFault.{GateStrategyFault}
+use Rattle.gate_strategy.specs.declared.fault.GateStrategyFault.TheVariants.{Check, NoCircuit, NoMemory}
+use Rattle.qrp_winner.specs.declared.strategy.Strategy.{Strategy}
 use Rattle.qrp_gates.specs.Lines.{refusal_line, refusal_status}
 use Rattle.qrp_gates.specs.declared.job.Job.{Job}
 use Rattle.qrp_gates.specs.declared.job.Job.TheVariants as job
 
--- the stream that refusals go to: for `check` the same as for its verdict, and for `clauses` the other one
+-- the stream that refusals go to: for `check` the same as for its verdict, and for a text that is written the other one
 abbrev pub refusals : Job → Stream
 refusals job.Clauses = Errors
+refusals (job.Strategy rules binary) = Errors
 refusals (job.Check rules) = Out
 
 -- the refusal of a text or of the proof, or that there are too many clauses
@@ -40,12 +50,21 @@ abbrev pub check_report : Rules → Result Bool Unverified → Report
 check_report rules (Ok truth) = success (verdict_line truth)
 check_report rules (Err e) = refusal (refusals (job.Check rules)) e
 
+-- the text of the circuit, or why there is none; out of memory is reported as that of a check
+abbrev pub strategy_report : (binary : Bool) → Result (Question × Strategy) GateStrategyFault → Report
+strategy_report binary (Ok r) = success (circuit_text binary r.1.circuit)
+strategy_report binary (Err (Check e)) = refusal Errors e
+strategy_report binary (Err NoMemory) = refusal Errors (fault.Proof (proof.Check C5))
+strategy_report binary (Err NoCircuit) = no_circuit
+
 -- the report of a job on its texts; once a trace was read, nothing is taken past its result word but what is held
 abbrev pub IsOutput : Job → SourceCall → SourceCall → Report → Type 0
 IsOutput job.Clauses question trace r = (made : Result Qbf Unverified) × AreMade question made × (r ≡ clauses_report made)
 IsOutput (job.Check rules) question trace r =
     (checked : Result Bool Unverified) × IsChecked rules question trace checked × StopsOnceRead trace.bytes trace.rest checked
     × (r ≡ check_report rules checked)
+IsOutput (job.Strategy rules binary) question trace r =
+    (found : Result (Question × Strategy) GateStrategyFault) × IsOfVerdict rules question trace found × (r ≡ strategy_report binary found)
 
 -- The line of a verdict on these bytes went out to a sink, and the headline holds for the verdict.
 abbrev pub PrintsVerdict : {S : Type 0} → Ghosts S → S → S → Rules → List ℕ → List ℕ → Type 0
@@ -56,3 +75,8 @@ PrintsVerdict sink old new rules question trace =
 abbrev pub WritesClauses : {S : Type 0} → Ghosts S → S → S → List ℕ → Type 0
 WritesClauses sink old new question =
     (q : Question) × IsQuestion question q × Appends (sink.written old) (sink.written new) (text (in_clauses q.formula))
+
+-- The text of a circuit went out to a sink, and the bytes spell a formula of gates whose winner wins by the circuit.
+abbrev pub WritesStrategy : {S : Type 0} → Ghosts S → S → S → (binary : Bool) → List ℕ → List ℕ → Type 0
+WritesStrategy sink old new binary question trace =
+    (w : Question × Strategy) × IsOfWinner question trace w × Appends (sink.written old) (sink.written new) (circuit_text binary w.1.circuit)

@@ -17,6 +17,9 @@ pub enum Job {
     Clauses,
     /// Tells whether the trace proves its result of the clauses.
     Check(Rules),
+    /// Writes the circuit of the winner by the trace, in AIGER's binary format if the second value is
+    /// true, and else in its ASCII format.
+    Strategy(Rules, bool),
 }
 
 impl Jobs for Job {
@@ -32,7 +35,7 @@ impl Jobs for Job {
 
     fn refused_on(self) -> Stream {
         match self {
-            Job::Clauses => Stream::Errors,
+            Job::Clauses | Job::Strategy(..) => Stream::Errors,
             Job::Check(_) => Stream::Out,
         }
     }

@@ -1,22 +1,32 @@
 //! A job from its sources to its sinks.
 
-ghost use Rattle.std.specs.Prelude.{◌≡◌, List, ℕ, Some};
+ghost use Rattle.std.specs.Prelude.{◌≡◌, List, ℕ, Bool, Some, Result};
 ghost use Rattle.qrp_check.specs.Checked.{call_of};
 ghost use Rattle.qrp_rules.specs.declared.rules.Rules.{Rules};
 ghost use Rattle.qrp_program.specs.Output.{Report, IsReported, IsReportedTo};
 ghost use Rattle.gate_verify.specs.Checked.{IsChecked, StopsOnceRead};
 ghost use Rattle.gate_verify.specs.Made.{AreMade};
+ghost use Rattle.gate_strategy.specs.Strategies.{IsOfVerdict};
+ghost use Rattle.gate_strategy.specs.declared.fault.GateStrategyFault.{GateStrategyFault};
+ghost use Rattle.qcir.specs.Reading.{Question};
+ghost use Rattle.qrp_winner.specs.declared.strategy.Strategy.{Strategy};
+ghost use Rattle.qrp_gates.specs.declared.job.Job.TheVariants as jobs;
 ghost use Rattle.qrp_gates.specs.declared.job.Job.TheVariants.{Check, Clauses};
-ghost use Rattle.qrp_gates.specs.Output.{IsOutput, check_report, clauses_report};
-ghost use Rattle.qrp_gates.specs.Output.{PrintsVerdict, WritesClauses};
+ghost use Rattle.qrp_gates.specs.Output.{IsOutput, check_report, clauses_report, strategy_report};
+ghost use Rattle.qrp_gates.specs.Output.{PrintsVerdict, WritesClauses, WritesStrategy};
 
 use crate::job::Job;
 use crate::lines::send_refusal;
+use circuit_cli::{send_circuit, send_no_circuit};
+use gate_strategy::{GateStrategyFault, find_gate_strategy};
 use gate_verify::{Unverified, read_in_clauses, verify_question};
 use qbf_core::Formula;
 use qbf_text::{Sink, Source};
+use qcir::{Question, read_bytes};
+use qrp_check::{CheckFault, Fault, Rules};
 use qrp_cli::{send_formula, send_verdict};
 use qrp_program::Status;
+use qrp_winner::Strategy;
 use std::alloc::Global;
 
 /// Sends the line of the verdict, or for the first fault.
@@ -42,6 +52,52 @@ fn send_clauses<O: Sink, E: Sink>(
     match made {
         Ok(formula) => send_formula(out, &formula),
         Err(fault) => send_refusal(err, fault),
+    }
+}
+
+/// Sends the circuit to `out`, or the line for the refusal to `err`.
+fn send_strategy<O: Sink, E: Sink>(
+    out: &mut O,
+    err: &mut E,
+    binary: bool,
+    found: Result<(Question, Strategy), GateStrategyFault>,
+) -> Status
+    ensures { IsReported O.Sink out.old out.new E.Sink err.old err.new
+        (strategy_report binary found.entry) result }
+{
+    match found {
+        Ok((_, strategy)) => send_circuit(out, binary, &strategy.circuit),
+        Err(GateStrategyFault::Check(fault)) => send_refusal(err, fault),
+        Err(GateStrategyFault::NoMemory) => {
+            send_refusal(err, Unverified::Proof(Fault::Check(CheckFault::C5)))
+        }
+        Err(GateStrategyFault::NoCircuit) => send_no_circuit(err),
+    }
+}
+
+/// Reads the formula of gates and the trace, and writes the circuit of the winner to `out`, or a
+/// refusal to `err`.
+fn run_strategy<F: Source, T: Source, O: Sink, E: Sink>(
+    alloc: Global,
+    wanted: (Rules, bool),
+    formula: &mut F,
+    trace: &mut T,
+    out: &mut O,
+    err: &mut E,
+) -> Status
+    ensures { (found : Result (Question × Strategy) GateStrategyFault)
+        × IsOfVerdict wanted.0 (call_of F.Source formula.old formula.new)
+        (call_of T.Source trace.old trace.new) found
+        × IsReported O.Sink out.old out.new E.Sink err.old err.new
+        (strategy_report wanted.1 found) result }
+{
+    let (rules, binary) = wanted;
+    match read_bytes(alloc, formula) {
+        Ok(text) => {
+            let found = find_gate_strategy(alloc, &text, trace, rules);
+            send_strategy(out, err, binary, found)
+        }
+        Err(fault) => send_refusal(err, Unverified::Question(fault, 0)),
     }
 }
 
@@ -77,10 +133,18 @@ pub fn run<F: Source, T: Source, O: Sink, E: Sink>(
     // that the bytes spell.
     ensures clauses { (a : List ℕ) → job ≡ Clauses → F.remaining formula.old ≡ Some a
         → result ≡ 0 → WritesClauses O.Sink out.old out.new a }
+    // The text that `strategy` prints with status 0 is that of a circuit by which the winner of the
+    // formula of gates wins.
+    ensures strategy { (rules : Rules) (binary : Bool) (a b : List ℕ) → job ≡ jobs.Strategy rules binary
+        → F.remaining formula.old ≡ Some a → T.remaining trace.old ≡ Some b → result ≡ 0
+        → WritesStrategy O.Sink out.old out.new binary a b }
     ensures not_pulled { job ≡ Clauses → trace.new ≡ trace.old }
 {
     match job {
         Job::Clauses => send_clauses(out, err, read_in_clauses(alloc, formula)),
+        Job::Strategy(rules, binary) => {
+            run_strategy(alloc, (rules, binary), formula, trace, out, err)
+        }
         Job::Check(rules) => send_checked(out, verify_question(alloc, formula, trace, rules)),
     }
 }

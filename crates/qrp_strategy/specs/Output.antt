@@ -1,14 +1,14 @@
 -- The report of a run: the text of a circuit, or a refusal.
-use Rattle.std.specs.Prelude.{◌≡◌, ℕ, Bool, List, Result, Ok, Err, codes}
+use Rattle.std.specs.Prelude.{◌≡◌, ℕ, Bool, List, Result, Ok, Err}
 use Rattle.std.specs.Io.KnownBytes.{Appends}
 use Rattle.aiger.specs.Formats.{circuit_text}
+use Rattle.circuit_cli.specs.Output.{no_circuit}
 use Rattle.qbf_text.specs.declared.sink.Sink.{Ghosts}
 use Rattle.qrp_check.specs.Checked.{SourceCall}
 use Rattle.qrp_check.specs.declared.fault.CheckFault.TheVariants.{C5}
 use Rattle.qrp_check.specs.declared.verdict.Fault.TheVariants as fault
 use Rattle.qrp_program.specs.Output.{Report, refusal, success}
 use Rattle.qrp_program.specs.declared.stream.Stream.TheVariants.{Errors}
-use Rattle.qrp_report.specs.Lines.{line}
 use Rattle.qrp_strategy.specs.declared.task.Task.{Task}
 use Rattle.qrp_winner.specs.Strategies.{IsOfVerdict, IsOfWinner}
 use Rattle.qrp_winner.specs.declared.fault.StrategyFault.{StrategyFault}
@@ -20,7 +20,7 @@ abbrev pub strategy_report : (binary : Bool) → Result Strategy StrategyFault �
 strategy_report binary (Ok s) = success (circuit_text binary s.circuit)
 strategy_report binary (Err (Check e)) = refusal Errors e
 strategy_report binary (Err NoMemory) = refusal Errors (fault.Check C5)
-strategy_report binary (Err NoCircuit) = record { stream = Errors; text = line (codes "NO CIRCUIT"); status = 4; failed = 3 }
+strategy_report binary (Err NoCircuit) = no_circuit
 
 -- the report on two texts
 abbrev pub IsOutput : Task → SourceCall → SourceCall → Report → Type 0

@@ -1,35 +1,17 @@
 //! From two sources to two sinks.
 
-ghost use Rattle.std.specs.Prelude.{◌≡◌, List, ℕ, Some, codes};
-ghost use Rattle.aiger.specs.Formats.{circuit_text};
+ghost use Rattle.std.specs.Prelude.{◌≡◌, List, ℕ, Some};
 ghost use Rattle.qrp_check.specs.Checked.{call_of};
-ghost use Rattle.qrp_program.specs.Output.{IsReported, IsSent, Report};
-ghost use Rattle.qrp_report.specs.Lines.{line};
+ghost use Rattle.qrp_program.specs.Output.{IsReported, Report};
 ghost use Rattle.qrp_strategy.specs.Output.{IsOutput, WritesWinner, strategy_report};
 
 use crate::task::Task;
-use aiger::{Circuit, write_circuit};
-use qbf_text::{Sink, Source, put_bytes};
+use circuit_cli::{send_circuit, send_no_circuit};
+use qbf_text::{Sink, Source};
 use qrp_check::{CheckFault, Fault};
-use qrp_program::{Status, finish_sent, send_fault};
+use qrp_program::{Status, send_fault};
 use qrp_winner::{Strategy, StrategyFault, find_strategy};
 use std::alloc::Global;
-
-/// Sends the text of a circuit in one of the formats.
-fn send_circuit<S: Sink>(sink: &mut S, binary: bool, circuit: &Circuit) -> Status
-    ensures { IsSent S.Sink sink.old sink.new (circuit_text binary circuit.now) 0 3 result }
-{
-    let sent = write_circuit(circuit, binary, sink);
-    finish_sent(sink, sent, 0)
-}
-
-/// Sends the line for a circuit that was not made.
-fn send_no_circuit<S: Sink>(sink: &mut S) -> Status
-    ensures { IsSent S.Sink sink.old sink.new (line (codes "NO CIRCUIT")) 4 3 result }
-{
-    let sent = put_bytes(sink, b"NO CIRCUIT\n");
-    finish_sent(sink, sent, 4)
-}
 
 /// Sends the circuit to `out`, or the line for the refusal to `err`.
 fn send_strategy<O: Sink, E: Sink>(

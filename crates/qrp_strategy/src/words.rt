@@ -1,12 +1,13 @@
 //! The arguments of the command line.
 
-ghost use Rattle.std.specs.Prelude.{◌≡◌, ◌<◌, ◌↔◌, ◌⊎◌, codes, map, IfSome, IfNone, IsTrue, length};
+ghost use Rattle.std.specs.Prelude.{◌≡◌, ◌<◌, ◌↔◌, map, IfSome, IfNone, IsTrue, length};
 ghost use Rattle.std.specs.String.{string_bytes};
 ghost use Rattle.qrp_strategy.specs.Words.{IsFlag, IsRow, files_at};
 ghost use Rattle.qrp_strategy.specs.declared.task.Task.{Task};
 ghost use Rattle.qrp_program.specs.Words.{Request};
 
 use crate::task::Task;
+use circuit_cli::are_both_flags;
 use qrp_check::Rules;
 use qrp_program::is_word;
 
@@ -29,18 +30,6 @@ fn is_file(word: &String) -> bool
     !is_word(word, "--binary")
 }
 
-/// Whether the words are the two flags, in any order.
-fn are_both(first: &String, second: &String) -> bool
-    ensures { IsTrue result
-        ↔ (((string_bytes first.now ≡ codes "--qu") × (string_bytes second.now ≡ codes "--binary"))
-        ⊎ ((string_bytes first.now ≡ codes "--binary") × (string_bytes second.now ≡ codes "--qu"))) }
-{
-    if is_word(first, "--qu") {
-        return is_word(second, "--binary");
-    }
-    is_word(first, "--binary") && is_word(second, "--qu")
-}
-
 /// What the arguments ask for, and the places of the formula and the trace among them, counted from
 /// 0, if they are a command line of the usage: a formula and a trace, and before them none of the
 /// flags `--qu` and `--binary`, one, or both in any order.
@@ -56,7 +45,7 @@ pub fn request(words: &[String]) -> Option<(Task, usize, Option<usize>)>
         [first, _] if is_file(first) => Some(asked(Rules::plain(), false, 0)),
         [flag, _, _] if is_word(flag, "--qu") => Some(asked(Rules::any_pivot(), false, 1)),
         [flag, _, _] if is_word(flag, "--binary") => Some(asked(Rules::plain(), true, 1)),
-        [first, second, _, _] if are_both(first, second) => {
+        [first, second, _, _] if are_both_flags(first, second) => {
             Some(asked(Rules::any_pivot(), true, 2))
         }
         _ => None,

@@ -1,8 +1,8 @@
-use Rattle.std.proofs.Common.{refl, sym, subst, ◌∙◌}
+use Rattle.std.proofs.Common.{refl, sym, subst, ◌∙◌, Bool}
 use Rattle.qrp_check.specs.Checked.{call_of}
 use Rattle.qrp_rules.specs.declared.rules.Rules.{Rules}
-use Rattle.qrp_gates.proofs.ProgramReport.{of_clauses, on_out, prints_verdict, same_rules, writes_clauses}
-use Rattle.qrp_gates.specs.Output.{PrintsVerdict, check_report, clauses_report}
+use Rattle.qrp_gates.proofs.ProgramReport.{of_clauses, on_out, prints_verdict, same_format, same_rules, writes_clauses, writes_strategy}
+use Rattle.qrp_gates.specs.Output.{PrintsVerdict, WritesStrategy, check_report, clauses_report, strategy_report}
 use Rattle.qrp_gates.proofs.running.run.Goals as goal
 
 pub returns-in-Clauses-clause-report : goal.returns-in-Clauses-clause-report
@@ -28,3 +28,17 @@ returns-in-Check-clause-headline g c = λ rules a b is is_a is_b zero.
     subst (λ (r : Rules). PrintsVerdict g.O.Sink c.args.out.now c.send_checked.new.out r a b) (same_rules c.in-Check.rules rules (sym c.in-Check.is ∙ is))
     (prints_verdict g.O.Sink _ _ c.in-Check.rules _ _ a b c.verify_question.result _ c.verify_question.ensures.headline is_a is_b
     (c.send_checked.ensures c.in-Check.rules) zero)
+
+pub returns-in-Strategy-clause-report : goal.returns-in-Strategy-clause-report
+returns-in-Strategy-clause-report g c =
+    let w = c.run_strategy.ensures in
+    rw c.in-Strategy.is (strategy_report c.in-Strategy.binary w.0, (w.0, w.1, refl), w.2)
+
+pub returns-in-Strategy-clause-strategy : goal.returns-in-Strategy-clause-strategy
+returns-in-Strategy-clause-strategy g c = λ rules binary a b is is_a is_b zero.
+    let w = c.run_strategy.ensures in
+    subst (λ (f : Bool). WritesStrategy g.O.Sink c.args.out.now c.run_strategy.new.out f a b)
+    (same_format c.in-Strategy.rules rules c.in-Strategy.binary binary (sym c.in-Strategy.is ∙ is))
+    (writes_strategy g.O.Sink _ _ g.E.Sink _ _ c.in-Strategy.rules c.in-Strategy.binary
+    (call_of g.F.Source c.args.formula.now c.run_strategy.new.formula) (call_of g.T.Source c.args.trace.now c.run_strategy.new.trace) a b w.0 _ w.1
+    is_a is_b w.2 zero)

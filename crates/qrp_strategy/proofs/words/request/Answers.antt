@@ -27,7 +27,7 @@ returns-in-len3-2-clause-row c =
 pub returns-in-len4-clause-row : goal.returns-in-len4-clause-row
 returns-in-len4-clause-row c =
     let is : ◌≡◌ {A = Request Task} _ (files_at any_pivot true 2) = c.asked-in-len4.ensures ∙ ap (λ r. files_at r true 2) c.any_pivot-in-len4.ensures in
-    elim (c.are_both.ensures.0 c.if-are_both.true) [
+    elim (c.are_both_flags.ensures.0 c.if-are_both_flags.true) [
       | inl (qu, binary) ↦
           let four = flags_first (λ w. string_bytes w) c.args.words.now c.first-item-then-words-lt5.result c.second-item.result (codes "--qu") (codes "--binary")
           c.in-len4.len_at_least c.in-len4.len_below c.first-item-then-words-lt5.is c.second-item.is qu binary in
