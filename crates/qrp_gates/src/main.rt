@@ -1,9 +1,11 @@
-//! The program `qrp_gates`: questions in gates, their clauses, and the check of traces of them.
+//! The program `qrp_gates`: questions in gates, their clauses, the check of traces of them, and the
+//! winner's circuit.
 //!
 //! - Owns: its command line and its reports.
 //! - Offers: the program.
 //! - Proved: `run` writes exactly the report for its files to the right sink, with its status. With
-//!   status 0, `check` printed the truth of the formula of gates, and `clauses` wrote its clauses.
+//!   status 0, `check` printed the truth of the formula of gates, `clauses` wrote its clauses, and
+//!   `strategy` the circuit by which its winner wins.
 //! - Read first: `run`, `request`, and then `program` of `qrp_program`.
 //! - Tested only: over the built program.
 //! - Trusted: std's files, arguments and streams, as `main` uses them.

@@ -106,7 +106,7 @@ fn run_strategy<F: Source, T: Source, O: Sink, E: Sink>(
 ///
 /// If the bytes of the sources are known, the report is the one for what they spell. A source
 /// that fails is reported in a line with status 3, out of memory in a line with status 4, on the
-/// sink that takes the refusals of the job: `out` for `Check`, `err` for `Clauses`. The other sink
+/// sink that takes the refusals of the job: `out` for `Check`, `err` for the others. The other sink
 /// gets nothing. If the sink of the report fails, in a write or in `finish`, the status is 3 and
 /// a beginning of the text went out. For `Clauses`, and unless the clauses are made, the trace is
 /// not pulled. Once a trace was read, nothing is read past the separator after its result word but
