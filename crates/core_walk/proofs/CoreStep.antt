@@ -16,6 +16,8 @@ use Rattle.qbf_core.proofs.Bound.{bound_within}
 use Rattle.qbf_core.proofs.Order.{clean_within}
 use Rattle.core_walk.specs.DistinctLits.{HasMembersAt}
 use Rattle.core_walk.specs.Earlier.{FindsEarlier, StandsEarlier}
+use Rattle.core_walk.specs.Followed.{IsAnswerAt}
+use Rattle.std.specs.Prelude.{Ok, Err}
 use Rattle.core_walk.specs.Premises.{AreFit, ArePremises, IsPremise, found_conditions, written_conditions}
 use Rattle.core_walk.specs.declared.premises.Premises.{Premises}
 use Rattle.core_walk.specs.declared.premises.Premises.TheVariants.{Initial, One, Two}
@@ -94,21 +96,23 @@ pub found_answer : (rules : Rules) (side : Side) (f : Qbf) (before : List Infere
     → IsFaultOf (found_conditions rules side f found lits) answer → IsFaultOf (step_conditions rules side f before step) answer
 found_answer rules side f before step found lits answer same are a = grind (arith, common_steps, from_found)
 
--- a step that follows, after those before it
-pub followed_here : (rules : Rules) (side : Side) (f : Qbf) (steps : List Inference) (place : ℕ) (found : Option Premises)
-    (lits : List Literal) → ((j : ℕ) → j < place → IsInCore steps j → StepFollows rules side f steps j)
-    → ((step : Inference) → IsAt steps place step → lits ≡ step.lits)
+-- the answer for a step of which the antecedents were found
+pub step_answer : {E : Type 0} (rules : Rules) (side : Side) (f : Qbf) (steps : List Inference) (place : ℕ) (found : Option Premises)
+    (lits : List Literal) (r : Result (Option RuleFault) E) → ((step : Inference) → IsAt steps place step → lits ≡ step.lits)
     → ((step : Inference) → IsAt steps place step → ArePremises (take place steps) step.ants found)
-    → IsFaultOf (found_conditions rules side f found lits) None
+    → IfOk r (IsFaultOf (found_conditions rules side f found lits)) → IfOk r (IsAnswerAt rules side f steps place)
+step_answer rules side f steps place found lits (Ok answer) own are a = λ step here.
+    found_answer rules side f (take place steps) step found lits answer (own step here) (are step here) a
+step_answer rules side f steps place found lits (Err e) own are a = tt
+
+-- a step that follows, after those before it
+pub followed_here : (rules : Rules) (side : Side) (f : Qbf) (steps : List Inference) (place : ℕ)
+    → ((j : ℕ) → j < place → IsInCore steps j → StepFollows rules side f steps j) → IsAnswerAt rules side f steps place None
     → (j : ℕ) → j < place + 1 → IsInCore steps j → StepFollows rules side f steps j
-followed_here rules side f steps place found lits before own are all =
+followed_here rules side f steps place before all =
     below_more (λ (j : ℕ). IsInCore steps j → StepFollows rules side f steps j) place before (λ core.
     let s = at_place steps place (core_within steps place core) in
-    record {
-      step = s.0;
-      here = s.1;
-      all = found_answer rules side f (take place steps) s.0 found lits None (own s.0 s.1) (are s.0 s.1) all;
-    })
+    record { step = s.0; here = s.1; all = all s.0 s.1 })
 
 -- a set in the place of the literals
 premise_answer : (rules : Rules) (side : Side) (f : Qbf) (premises : Premises) (set lits : List Literal) (answer : Option RuleFault)

@@ -1,10 +1,10 @@
 //! Steps that repeat a literal, with each of their literals once.
 
-ghost use Rattle.std.specs.Prelude.{◌≡◌, ◌<◌, List, [], ◌∷◌, ◌++◌, length, IfSome, OnOk};
+ghost use Rattle.std.specs.Prelude.{◌≡◌, ◌<◌, List, [], ◌∷◌, ◌++◌, length, IfOk, IfSome, OnOk};
 ghost use Rattle.trace_items.specs.Inferences.{Inference};
 ghost use Rattle.core_walk.specs.DistinctLits.{AreKept, HasMembersAt, IsKeptAt};
 
-use qbf_core::{GrowingLists, Lit};
+use qbf_core::{GrowingLists, Lit, LitBuffer};
 use std::alloc::{AllocError, Global};
 use trace_items::KeptSteps;
 use written_steps::{SeenLits, push_distinct};
@@ -46,19 +46,27 @@ impl DistinctLits {
     }
 
     /// The literals of the step at a position: each once if the step is kept, else as they are
-    /// written.
+    /// written. The buffer is for those that the trace cannot lend.
+    ///
+    /// # Errors
+    /// If an allocation fails.
     #[inline(always)]
-    pub(crate) fn lits<'a, T: KeptSteps>(&'a self, trace: &'a T, position: usize) -> &'a [Lit]
+    pub(crate) fn lits<'a, T: KeptSteps>(
+        &'a self,
+        trace: &'a T,
+        position: usize,
+        buffer: &'a mut LitBuffer,
+    ) -> Result<&'a [Lit], AllocError>
         requires position { position < length (T.steps trace.now) }
         requires kept { AreKept (T.steps trace.now) self.now }
-        ensures { HasMembersAt (T.steps trace.now) position result.now }
+        ensures { IfOk result (λ lits. HasMembersAt (T.steps trace.now) position lits.now) }
     {
         if !self.positions.is_empty() {
             if let Some(lits) = self.find(position) {
-                return lits;
+                return Ok(lits);
             }
         }
-        trace.lits(position)
+        trace.lits(position, buffer)
     }
 
     /// Keeps the unfinished list as that of the step at a position.

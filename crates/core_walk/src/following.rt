@@ -1,18 +1,23 @@
 //! The walk over the core: whether each of its steps follows from those before it.
 
-ghost use Rattle.std.specs.Prelude.{◌≡◌, ◌↔◌, ◌+◌, ℕ, length, OnOk, IfErr};
+ghost use Rattle.std.specs.Prelude.{◌≡◌, ◌↔◌, ◌+◌, ℕ, length, IfErr, IfOk, OnOk};
+ghost use Rattle.trace_items.specs.Inferences.{Inference, IsAt};
 ghost use Rattle.core_walk.specs.Conditions.{StepFollows};
 ghost use Rattle.core_walk.specs.Core.{IsInCore};
-ghost use Rattle.core_walk.specs.Followed.{IsCoreFault, IsFollowed};
+ghost use Rattle.core_walk.specs.Followed.{IsAnswerAt, IsCoreFault, IsFollowed};
+ghost use Rattle.core_walk.specs.Uneven.{ArePartsOf};
+ghost use Rattle.written_steps.specs.Initial.{AreKnown};
 ghost use Rattle.core_walk.specs.Marks.{IsMarked};
 
 use crate::distinct_lits::DistinctLits;
 use crate::fault::CoreFault;
 use crate::hints::Hints;
-use crate::premises::find_premises;
+use crate::premises::{PremiseBuffers, find_premises};
 use crate::step::{CheckState, Context};
 use crate::uneven::{FoundStep, JudgeState, judge};
-use qrp_rules::Side;
+use qbf_core::{Lit, LitBuffer};
+use qrp_rules::{RuleFault, Side};
+use std::alloc::AllocError;
 use trace_items::KeptSteps;
 use written_steps::{InitialSteps, Parts, SeenLits};
 
@@ -22,16 +27,75 @@ pub(crate) struct WalkState {
     hints: Hints,
     distinct: DistinctLits,
     judged: JudgeState,
+    buffers: PremiseBuffers,
 }
 
-/// Follows the step of the core at a position, after those before it.
-fn follow_step<S: Side, T: KeptSteps>(
+/// Why the step of the core at a position, with its literals as they are written, does not follow
+/// from those before it, or `None` if it does.
+///
+/// # Errors
+/// If an allocation fails.
+#[inline(always)]
+fn judge_written<S: Side, T: KeptSteps>(
     context: Context,
     trace: &T,
     position: usize,
+    lits: &[Lit],
+    state: &mut WalkState,
+) -> Result<Option<RuleFault>, AllocError>
+    requires core { IsInCore (T.steps trace.now) position }
+    requires lits { (step : Inference) → IsAt (T.steps trace.now) position step
+        → lits.now ≡ step.lits }
+    requires before { IsFollowed context.rules S.side context.formula.now (T.steps trace.now)
+        position state.old }
+    ensures fault { IfOk result (IsAnswerAt context.entry.rules S.side context.entry.formula.now
+        (T.steps trace.now) position) }
+    ensures known { OnOk result (AreKnown context.entry.formula.now
+        state.new.judged.tests.initial) }
+    ensures parts { OnOk result (ArePartsOf S.side context.entry.formula.now.blocks
+        (T.steps trace.now) state.new.judged.parts) }
+    ensures kept { state.new.distinct ≡ state.old.distinct }
+{
+    match find_premises(
+        trace,
+        &state.distinct,
+        position,
+        &mut state.hints,
+        &mut state.buffers,
+    ) {
+        Ok(Some(found)) => {
+            let step = FoundStep {
+                position,
+                premises: Some(found),
+                lits,
+            };
+            judge::<S, T>(context, trace, &mut state.judged, step)
+        }
+        Ok(None) => {
+            let step = FoundStep {
+                position,
+                premises: None,
+                lits,
+            };
+            judge::<S, T>(context, trace, &mut state.judged, step)
+        }
+        Err(refused) => Err(refused),
+    }
+}
+
+/// Follows the step of the core at a position, with its literals as they are written, after those
+/// before it.
+#[inline(always)]
+fn follow_written<S: Side, T: KeptSteps>(
+    context: Context,
+    trace: &T,
+    position: usize,
+    lits: &[Lit],
     state: &mut WalkState,
 ) -> Result<(), CoreFault>
     requires core { IsInCore (T.steps trace.now) position }
+    requires lits { (step : Inference) → IsAt (T.steps trace.now) position step
+        → lits.now ≡ step.lits }
     requires before { IsFollowed context.rules S.side context.formula.now (T.steps trace.now)
         position state.old }
     ensures follows { OnOk result (IsFollowed context.entry.rules S.side context.entry.formula.now
@@ -39,14 +103,7 @@ fn follow_step<S: Side, T: KeptSteps>(
     ensures refused { IfErr result
         (IsCoreFault context.entry.rules S.side context.entry.formula.now (T.steps trace.now)) }
 {
-    let found = find_premises(trace, &state.distinct, position, &mut state.hints);
-    let lits = trace.lits(position);
-    let step = FoundStep {
-        position,
-        premises: found,
-        lits,
-    };
-    match judge::<S, T>(context, trace, &mut state.judged, step)? {
+    match judge_written::<S, T>(context, trace, position, lits, state)? {
         None => Ok(
             state
                 .distinct
@@ -54,6 +111,36 @@ fn follow_step<S: Side, T: KeptSteps>(
         ),
         Some(fault) => Err(CoreFault::Step(trace.number(position), fault)),
     }
+}
+
+/// A walk over the core.
+#[derive(Drop)]
+struct Walk {
+    state: WalkState,
+    /// Room for the literals of a step, if the trace cannot lend them.
+    own: LitBuffer,
+}
+
+/// Follows the step of the core at a position, after those before it.
+fn follow_step<S: Side, T: KeptSteps>(
+    context: Context,
+    trace: &T,
+    position: usize,
+    walk: &mut Walk,
+) -> Result<(), CoreFault>
+    requires core { IsInCore (T.steps trace.now) position }
+    requires before { IsFollowed context.rules S.side context.formula.now (T.steps trace.now)
+        position walk.old.state }
+    ensures follows { OnOk result (IsFollowed context.entry.rules S.side context.entry.formula.now
+        (T.steps trace.now) (position + 1) walk.new.state) }
+    ensures refused { IfErr result
+        (IsCoreFault context.entry.rules S.side context.entry.formula.now (T.steps trace.now)) }
+{
+    let lits = match trace.lits(position, &mut walk.own) {
+        Ok(lits) => lits,
+        Err(_) => return Err(CoreFault::OutOfMemory),
+    };
+    follow_written::<S, T>(context, trace, position, lits, &mut walk.state)
 }
 
 /// Goes over the marked steps, which are the core, while each follows from those before it.
@@ -74,7 +161,7 @@ pub(crate) fn follow_core<S: Side, T: KeptSteps>(
     ensures refused { IfErr result
         (IsCoreFault context.entry.rules S.side context.entry.formula.now (T.steps trace.now)) }
 {
-    let mut state = WalkState {
+    let state = WalkState {
         hints,
         distinct: DistinctLits::new(context.alloc),
         judged: JudgeState {
@@ -84,10 +171,16 @@ pub(crate) fn follow_core<S: Side, T: KeptSteps>(
             },
             parts: Parts::new(context.alloc),
         },
+        buffers: PremiseBuffers {
+            first: LitBuffer::new(context.alloc),
+            second: LitBuffer::new(context.alloc),
+        },
     };
+    let own = LitBuffer::new(context.alloc);
+    let mut walk = Walk { state, own };
     for position in 0..trace.len() {
         if marks[position] {
-            follow_step::<S, T>(context, trace, position, &mut state)?;
+            follow_step::<S, T>(context, trace, position, &mut walk)?;
         }
     }
     Ok(())

@@ -1,13 +1,14 @@
 //! The literals of the antecedents of a step.
 
-ghost use Rattle.std.specs.Prelude.{◌<◌, take, length};
+ghost use Rattle.std.specs.Prelude.{◌<◌, take, length, IfOk};
 ghost use Rattle.trace_items.specs.Inferences.{Inference, IsAt};
 ghost use Rattle.core_walk.specs.DistinctLits.{AreKept};
 ghost use Rattle.core_walk.specs.Premises.{ArePremises};
 
 use crate::distinct_lits::DistinctLits;
 use crate::hints::Hints;
-use qbf_core::Lit;
+use qbf_core::{Lit, LitBuffer};
+use std::alloc::AllocError;
 use trace_items::{Antecedents, KeptSteps};
 
 /// The literals of the antecedents of a step: as they are written, or each once.
@@ -21,31 +22,52 @@ pub(crate) enum Premises<'a> {
     Two(&'a [Lit], &'a [Lit]),
 }
 
+/// Room for the literals of two antecedents, for those that the trace cannot lend.
+#[derive(Drop)]
+pub(crate) struct PremiseBuffers {
+    pub(crate) first: LitBuffer,
+    pub(crate) second: LitBuffer,
+}
+
 /// The literals of the antecedents of the step at a position, or `None` if one of them is not the
 /// number of an earlier step.
+///
+/// # Errors
+/// If an allocation fails.
 #[inline(always)]
 pub(crate) fn find_premises<'a, T: KeptSteps>(
     trace: &'a T,
     distinct: &'a DistinctLits,
     position: usize,
     hints: &mut Hints,
-) -> Option<Premises<'a>>
+    buffers: &'a mut PremiseBuffers,
+) -> Result<Option<Premises<'a>>, AllocError>
     requires position { position < length (T.steps trace.now) }
     requires kept { AreKept (T.steps trace.now) distinct.now }
-    ensures { (step : Inference) → IsAt (T.steps trace.now) position step
-        → ArePremises (take position (T.steps trace.now)) step.ants result }
+    ensures { IfOk result (λ found. (step : Inference)
+        → IsAt (T.steps trace.now) position step
+        → ArePremises (take position (T.steps trace.now)) step.ants found) }
 {
     match trace.antecedents(position) {
-        Antecedents::Empty => Some(Premises::Initial),
+        Antecedents::Empty => Ok(Some(Premises::Initial)),
         Antecedents::One(only) => {
-            let from = hints.find_again(trace, position, only)?;
-            Some(Premises::One(distinct.lits(trace, from)))
+            let Some(from) = hints.find_again(trace, position, only) else {
+                return Ok(None);
+            };
+            let lits = distinct.lits(trace, from, &mut buffers.first)?;
+            Ok(Some(Premises::One(lits)))
         }
         Antecedents::Two(first, second) => {
             // The positions were found in the other order.
-            let b = hints.find_again(trace, position, second)?;
-            let a = hints.find_again(trace, position, first)?;
-            Some(Premises::Two(distinct.lits(trace, a), distinct.lits(trace, b)))
+            let Some(b) = hints.find_again(trace, position, second) else {
+                return Ok(None);
+            };
+            let Some(a) = hints.find_again(trace, position, first) else {
+                return Ok(None);
+            };
+            let lits_of_a = distinct.lits(trace, a, &mut buffers.first)?;
+            let lits_of_b = distinct.lits(trace, b, &mut buffers.second)?;
+            Ok(Some(Premises::Two(lits_of_a, lits_of_b)))
         }
     }
 }

@@ -18,13 +18,13 @@ use written_steps::{Parts, ShortStep};
 
 /// A step of the core, with the literals of its antecedents.
 #[derive(Clone, Copy)]
-pub(crate) struct FoundStep<'a> {
+pub(crate) struct FoundStep<'a, 'l> {
     /// Its position in the trace.
     pub(crate) position: usize,
     /// None, if an antecedent is not an earlier step.
     pub(crate) premises: Option<Premises<'a>>,
     /// The literals, as they are written.
-    pub(crate) lits: &'a [Lit],
+    pub(crate) lits: &'l [Lit],
 }
 
 /// The state that is kept from one step to the next.
@@ -60,7 +60,7 @@ fn shorter<'a, S: Side, T: KeptSteps>(
     context: Context,
     trace: &T,
     parts: &'a Parts,
-    step: FoundStep<'a>,
+    step: FoundStep<'a, '_>,
 ) -> Option<Premises<'a>>
     requires position { step.position < length (T.steps trace.now) }
     requires are { ArePremisesAt (T.steps trace.now) step.position step.premises }

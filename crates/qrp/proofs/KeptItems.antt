@@ -21,6 +21,14 @@ use Rattle.qrp.specs.declared.states.Lists.{Lists}
 use Rattle.qrp.specs.Flat.{kept_of, trace_of, ClosesPart}
 use Rattle.qrp.specs.States.{item_of, numbers_after, state_at, Arrives}
 use Rattle.trace_items.specs.declared.item.Outcome.{Outcome}
+use Rattle.trace_items.specs.StepLists.{with_lists, ListsOfSteps}
+use Rattle.trace_items.specs.Antecedents.{list_of_pair}
+use Rattle.step_index.specs.Numbers.{AreStepNumbers}
+use Rattle.qrp.specs.Flat.{IsFlat, Kept}
+use Rattle.qrp.specs.States.{IsComplete}
+use Rattle.qrp.proofs.FlatSteps.{numbered_more, flat_pushed}
+use Rattle.trace_items.specs.Inferences.{Inference}
+use Rattle.std.proofs.Common.{subst}
 use Rattle.qrp.specs.declared.states.Part.{Part}
 use Rattle.qrp.specs.declared.states.State as states
 use Rattle.qrp.specs.Reading.{Fault, State, Row, Between, After, row, items_from, with_items, nothing, read_trace}
@@ -135,7 +143,7 @@ kept_leads : (d : Derivation) (first next : State) (values : List ℤ) (from to 
     → LeadsOver trace_row (record { made = d; state = first }) (record { made = d; state = next }) values from to
 kept_leads d first next values from to l = grind (arith, common_steps, kept_by)
 
-pub step_leads : {A : Type 0} (lists : A → List (List ℕ)) (p : Parts A) (b : Lists) (first next : State) (values : List ℤ) (from to : ℕ) → Stays p.lists b
+pub step_leads : {A : Type 0} (lists : A → ListsOfSteps) (p : Parts A) (b : Lists) (first next : State) (values : List ℤ) (from to : ℕ) → Stays p.lists b
     → LeadsOver row first next values from to
     → LeadsOver trace_row (record { made = trace_of (kept_of lists p); state = first })
     (record { made = trace_of (kept_of lists (record p { lists = b })); state = next }) values from to
@@ -155,15 +163,31 @@ kept_end d b (part.Set q) state v ends = ap (kept_row d) ends
 kept_end d b (part.Step n) state v ends = ap (kept_row d) ends
 kept_end d b (part.Result o) state v ends = absurd (no_result state (int_lt v (pos 0)) (unsigned_abs v) o b.index ends)
 
+-- a step is put after the others
+pub step_closes : {A : Type 0} (lists : A → ListsOfSteps) (p : Parts A) (s : A) (n : ℕ) → IsFlat (kept_of lists p)
+    → lists s ≡ with_lists (lists p.steps) p.lists.lits.unfinished p.lists.ants
+    → AreStepNumbers (p.lists.index ++ n ∷ []) → IsComplete (part.Step n) p.lists
+    → ClosesPart lists p (record p { lists = record p.lists { index = p.lists.index ++ n ∷ [] }; steps = s }) (part.Step n)
+step_closes lists p s n made added are complete =
+    let step : Inference = record { number = n; lits = p.lists.lits.unfinished; ants = list_of_pair p.lists.ants } in
+    let kept : ListsOfSteps → Kept = λ k. record (kept_of lists p) { numbers = p.lists.index ++ n ∷ []; lits = k.lits; ants = k.ants } in
+    record {
+      made = ap (λ (k : ListsOfSteps). trace_of (kept k)) added ∙ ap (λ (xs : List Inference). record (trace_of (kept_of lists p)) { steps = xs })
+          (numbered_more p.lists.index (lists p.steps).lits (lists p.steps).ants step made.lits_counted made.ants_counted);
+      numbers = refl;
+      flat = subst (λ (k : ListsOfSteps). IsFlat (kept k)) (sym added) (flat_pushed (kept_of lists p) step made are
+          (record { number = complete.0.0; lits = complete.1; ants = complete.2.numbers; few = complete.2.few }) complete.2.fit);
+    }
+
 -- a step that a zero completes is kept
-pub step_kept : {A : Type 0} (lists : A → List (List ℕ)) (first : TraceRead) (old new : Parts A) (n : ℕ) (values : List ℤ) (from i : ℕ) → slice_index_or values i (pos 0) ≡ pos 0
+pub step_kept : {A : Type 0} (lists : A → ListsOfSteps) (first : TraceRead) (old new : Parts A) (n : ℕ) (values : List ℤ) (from i : ℕ) → slice_index_or values i (pos 0) ≡ pos 0
     → LeadsOver trace_row first (trace_at lists old (at.InAnts n)) values from i → ClosesPart lists old new (part.Step n)
     → LeadsOver trace_row first (trace_at lists new at.Between) values from (i + 1)
 step_kept lists first old new n values from i is leads closes =
     grind (arith, common_steps, trace_at, with_item, trace_of, kept_of, item_of, leads_more, trace_row, token_of)
 
 -- a part that numbers complete is kept
-pub part_kept : {A : Type 0} (lists : A → List (List ℕ)) (p new : Parts A) (b : Lists) (first : State) (next : states.State) (q : Part)
+pub part_kept : {A : Type 0} (lists : A → ListsOfSteps) (p new : Parts A) (b : Lists) (first : State) (next : states.State) (q : Part)
     (values : List ℤ) (from to : ℕ) → Stays p.lists b → Arrives first b next values from to (Some q)
     → ClosesPart lists (record p { lists = b }) new q
     → LeadsOver trace_row (record { made = trace_of (kept_of lists p); state = first }) (trace_at lists new at.Between) values from to

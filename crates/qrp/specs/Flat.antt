@@ -1,7 +1,6 @@
 -- Steps whose literals and antecedents lie in flat buffers.
 use Rattle.std.specs.Prelude.{◌≡◌, ℕ, List, [], ◌∷◌, ◌++◌, length}
 use Rattle.qbf_core.specs.Blocks.{Block}
-use Rattle.qbf_core.specs.Lists.{Growing}
 use Rattle.qbf_core.specs.Literal.{Literal}
 use Rattle.trace_items.specs.declared.item.Header.{Header}
 use Rattle.trace_items.specs.declared.item.Item.{Item}
@@ -11,6 +10,7 @@ use Rattle.qrp.specs.declared.parts.Parts.{Parts}
 use Rattle.qrp.specs.declared.states.Part.{Part}
 use Rattle.trace_items.specs.Derivations.{Derivation, IsWellFormed}
 use Rattle.trace_items.specs.Inferences.{Inference, numbers}
+use Rattle.trace_items.specs.StepLists.{ListsOfSteps}
 use Rattle.qrp.specs.States.{item_of, numbers_after}
 
 -- the steps of these numbers, literals and antecedents
@@ -43,23 +43,15 @@ pub record IsFlat (k : Kept) : Type 0 where
   pub lits_counted : length k.lits ≡ length k.numbers
   pub ants_counted : length k.ants ≡ length k.numbers
 
--- antecedents of which each list is lent
-abbrev pub lent : Growing ℕ → List (List ℕ)
-lent ants = ants.whole
-
--- the whole ones of these parts; `lists` gives the antecedents as lists
-abbrev pub kept_of : {A : Type 0} → (A → List (List ℕ)) → Parts A → Kept
+-- the whole ones of these parts; `lists` gives the literals and the antecedents of the steps
+abbrev pub kept_of : {A : Type 0} → (A → ListsOfSteps) → Parts A → Kept
 kept_of lists p = record {
   header = p.header;
   sets = p.sets;
   numbers = p.lists.index;
-  lits = p.lists.lits.whole;
-  ants = lists p.ants;
+  lits = (lists p.steps).lits;
+  ants = (lists p.steps).ants;
 }
-
--- the unfinished list is whole, and an empty one begins after it
-abbrev pub after_close : {X : Type 0} → Growing X → Growing X
-after_close g = record { whole = g.whole ++ g.unfinished ∷ []; unfinished = [] }
 
 -- a trace with one more item; a result is not kept
 abbrev pub with_item : Derivation → Item → Derivation
@@ -69,7 +61,7 @@ with_item d (item.Step s) = record d { steps = d.steps ++ s ∷ [] }
 with_item d (item.Result o) = d
 
 -- an unfinished part is whole
-pub record ClosesPart {A : Type 0} (lists : A → List (List ℕ)) (old new : Parts A) (p : Part) : Type 0 where
+pub record ClosesPart {A : Type 0} (lists : A → ListsOfSteps) (old new : Parts A) (p : Part) : Type 0 where
   pub made : trace_of (kept_of lists new) ≡ with_item (trace_of (kept_of lists old)) (item_of old.lists p)
   pub numbers : new.lists.index ≡ numbers_after old.lists p
   pub flat : IsFlat (kept_of lists new)

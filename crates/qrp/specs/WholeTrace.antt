@@ -10,6 +10,7 @@ use Rattle.trace_items.specs.declared.item.Outcome.{Outcome}
 use Rattle.qrp.specs.declared.parts.Parts.{Parts}
 use Rattle.qrp.specs.declared.states.State as states
 use Rattle.trace_items.specs.Derivations.{Derivation}
+use Rattle.trace_items.specs.StepLists.{ListsOfSteps}
 use Rattle.qrp.specs.Flat.{kept_of, trace_of, with_item, IsFlat}
 use Rattle.qrp.specs.Reading.{Fault, State, Row, AtP, Between, After, nothing, row}
 use Rattle.qrp.specs.States.{state_at, IsSound}
@@ -24,11 +25,11 @@ abbrev pub nothing_read : TraceRead
 nothing_read = record { made = nothing; state = AtP }
 
 -- the trace that is made of these parts, and the state of the next token
-abbrev pub trace_at : {A : Type 0} → (A → List (List ℕ)) → Parts A → states.State → TraceRead
+abbrev pub trace_at : {A : Type 0} → (A → ListsOfSteps) → Parts A → states.State → TraceRead
 trace_at lists p here = record { made = trace_of (kept_of lists p); state = state_at p.lists here }
 
 -- the invariant of the parts at the state of the next token
-abbrev pub AreSound : {A : Type 0} → (A → List (List ℕ)) → states.State → Parts A → Type 0
+abbrev pub AreSound : {A : Type 0} → (A → ListsOfSteps) → states.State → Parts A → Type 0
 AreSound lists here p = IsSound here p.lists × IsFlat (kept_of lists p)
 
 -- A row: what a state makes of a token. Only the result ends what is read.
@@ -52,7 +53,7 @@ abbrev pub trace_row : TraceRead → Token → TraceRow
 trace_row r t = kept_row r.made (row r.state t)
 
 -- the trace that these parts make with this result, or the fault
-abbrev pub trace_with : {A : Type 0} → (A → List (List ℕ)) → Result (Parts A × Outcome) Fault → Result Derivation Fault
+abbrev pub trace_with : {A : Type 0} → (A → ListsOfSteps) → Result (Parts A × Outcome) Fault → Result Derivation Fault
 trace_with lists (Ok r) = Ok (record (trace_of (kept_of lists r.0)) { result = r.1 })
 trace_with lists (Err e) = Err e
 

@@ -17,7 +17,7 @@ use dimacs_syntax::{decode_member, extend_literals};
 use qbf_core::{LAST_VARIABLE, Quantifier};
 use qbf_text::Stop;
 use std::alloc::AllocError;
-use trace_items::{AntecedentLists, AntecedentPair};
+use trace_items::{AntecedentPair, StepLists};
 use window_numbers::{Values, Zeros};
 
 /// Two places among the buffered numbers.
@@ -351,7 +351,7 @@ pub type Reached = (State, Result<usize, AllocError>);
 /// # Errors
 /// Out of memory.
 #[inline(always)]
-pub fn keep_part<A: AntecedentLists>(
+pub fn keep_part<A: StepLists>(
     here: State,
     parts: &mut Parts<A>,
     values: Values,
@@ -383,7 +383,7 @@ pub fn keep_part<A: AntecedentLists>(
 /// # Errors
 /// Out of memory.
 #[inline(always)]
-fn keep_whole<A: AntecedentLists>(
+fn keep_whole<A: StepLists>(
     parts: &mut Parts<A>,
     values: Values,
     next: NextPlaces,
@@ -422,7 +422,7 @@ fn surely_more(values: Values, from: usize) -> bool
 /// # Errors
 /// Out of memory.
 #[inline(never)]
-pub fn keep_steps<A: AntecedentLists>(
+pub fn keep_steps<A: StepLists>(
     parts: &mut Parts<A>,
     values: Values,
     zeros: Zeros,

@@ -7,19 +7,20 @@ ghost use Rattle.qrp.specs.Returns.{ReadsTrace};
 use crate::fault::TraceFault;
 use crate::parts::Parts;
 use crate::whole_trace::read_parts;
-use qbf_core::Lit;
+use qbf_core::{Lit, LitBuffer, LitsLeft};
 use qbf_text::Source;
-use std::alloc::Global;
+use std::alloc::{AllocError, Global};
 use std::marker::Model;
-use trace_items::{AntecedentWords, Antecedents, FlatSets, Header, KeptSteps, Outcome};
+use trace_items::{Antecedents, CompactLists, FlatSets, Header, KeptSteps, Outcome};
 
-/// A trace that was read as a whole. Its antecedents take four bytes each as long as all of them
-/// fit, so it gives them and cannot lend them.
+/// A trace that was read as a whole. The literals of a step take as many bytes as its
+/// largest needs, and antecedents four as long as all of them fit, so it gives them and cannot lend
+/// them.
 ///
 /// Contracts see a `Derivation`, which is well formed.
 #[derive(Drop)]
 pub struct CompactTrace {
-    parts: Parts<AntecedentWords>,
+    parts: Parts<CompactLists>,
     result: Outcome,
 }
 
@@ -76,14 +77,20 @@ impl KeptSteps for CompactTrace {
 
     #[inline(always)]
     #[tactic(auto, using(crate::proofs::FlatSteps::numbered_at))]
-    fn lits(&self, i: usize) -> &[Lit] {
-        self.parts.lists.lits.get(i)
+    fn lits_left(&self, i: usize) -> LitsLeft<'_> {
+        self.parts.steps.lits.left(i)
+    }
+
+    #[inline(always)]
+    #[tactic(auto, using(crate::proofs::FlatSteps::numbered_at))]
+    fn lits<'a>(&'a self, i: usize, buffer: &'a mut LitBuffer) -> Result<&'a [Lit], AllocError> {
+        self.parts.steps.lits.unpack(i, buffer)
     }
 
     #[inline(always)]
     #[tactic(auto, using(crate::proofs::FlatSteps::numbered_at, crate::proofs::FlatSteps::few_at))]
     fn antecedents(&self, i: usize) -> Antecedents {
-        self.parts.ants.get(i)
+        self.parts.steps.ants.get(i)
     }
 
     #[inline(always)]

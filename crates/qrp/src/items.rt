@@ -1,7 +1,7 @@
 //! The parts of a trace, given one after the other.
 
 ghost use Rattle.std.specs.Prelude.{◌≡◌, IfOk, OnErr};
-ghost use Rattle.qrp.specs.Flat.{kept_of, lent, nothing_kept, IsFlat};
+ghost use Rattle.qrp.specs.Flat.{kept_of, nothing_kept, IsFlat};
 ghost use Rattle.qrp.specs.Items.{HasItem, GivesItem};
 ghost use Rattle.qrp.specs.Reading.{AtP};
 
@@ -10,13 +10,12 @@ use crate::fault::TraceFault;
 use crate::parts::Parts;
 use crate::states::{Lists, Part, State, take_at};
 use dimacs_syntax::HeaderAt;
-use qbf_core::GrowingLists;
 use qbf_text::{Grammar, Progress, Stop, Taken};
 use qbf_tokens::Token;
 use std::alloc::{AllocError, Global};
 use std::marker::Model;
 use std::mem;
-use trace_items::{Item, QuantSet, Step};
+use trace_items::{Item, LentLists, QuantSet, Step};
 use window_numbers::{Values, Zeros};
 
 /// A trace whose parts are given one after the other.
@@ -25,18 +24,18 @@ use window_numbers::{Values, Zeros};
 #[derive(Drop)]
 pub struct ItemGrammar {
     state: State,
-    parts: Parts<GrowingLists<u64>>,
+    parts: Parts<LentLists>,
 }
 
 impl Model for ItemGrammar {
-    ghost use Rattle.qrp.specs.Flat.{kept_of, lent};
+    ghost use Rattle.qrp.specs.Flat.{kept_of};
     ghost use Rattle.qrp.specs.Items.{ItemsRead};
     ghost use Rattle.qrp.specs.States.{state_at, IsSound};
 
     ghost Value = { ItemsRead };
 
     ghost view = { λ g.
-        record { kept = kept_of lent g.parts; state = state_at g.parts.lists g.state } };
+        record { kept = kept_of (λ lists. lists) g.parts; state = state_at g.parts.lists g.state } };
 
     ghost invariant = { λ g. IsSound g.state g.parts.lists };
 }
@@ -84,8 +83,8 @@ impl ItemGrammar {
     }
 
     /// The parts that were kept. It takes no memory.
-    pub fn into_parts(self) -> Parts<GrowingLists<u64>>
-        ensures { kept_of lent result ≡ self.kept }
+    pub fn into_parts(self) -> Parts<LentLists>
+        ensures { kept_of (λ lists. lists) result ≡ self.kept }
     {
         let mut parts = self.parts;
         parts.lists.index.place_all();

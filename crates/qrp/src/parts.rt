@@ -1,8 +1,8 @@
 //! The parts of which a trace is made, whether it is read or pushed to.
 
 ghost use Rattle.std.specs.Prelude.{◌≡◌, false, [], ◌∷◌, ◌++◌, OnOk, OnErr};
-ghost use Rattle.trace_items.specs.Antecedents.{list_of_pair};
-ghost use Rattle.qrp.specs.Flat.{after_close, kept_of, nothing_kept, ClosesPart, IsFlat};
+ghost use Rattle.trace_items.specs.StepLists.{with_lists};
+ghost use Rattle.qrp.specs.Flat.{kept_of, nothing_kept, ClosesPart, IsFlat};
 ghost use Rattle.qrp.specs.States.{IsComplete, Stays};
 ghost use Rattle.step_index.specs.Numbers.{is_used, AreStepNumbers};
 
@@ -10,22 +10,22 @@ use crate::states::{Lists, Part};
 use qbf_core::{GrowingLists, Var};
 use std::alloc::{AllocError, Global};
 use step_index::StepIndex;
-use trace_items::{AntecedentLists, AntecedentPair, FlatSets, Header};
+use trace_items::{AntecedentPair, FlatSets, Header, StepLists};
 
-/// The parts of a trace. The antecedents of its whole steps are kept in an `A`.
+/// The parts of a trace. The lists of its whole steps are kept in an `A`.
 #[derive(Drop)]
 pub struct Parts<A> {
     pub alloc: Global,
     pub header: Header,
     /// The sets that are whole.
     pub sets: FlatSets,
-    /// The whole lists of steps, and the unfinished lists.
+    /// The unfinished lists, and the numbers of the steps that are whole.
     pub lists: Lists,
-    /// The antecedents of the steps that are whole.
-    pub ants: A,
+    /// The lists of the steps that are whole.
+    pub steps: A,
 }
 
-impl<A: AntecedentLists> Parts<A> {
+impl<A: StepLists> Parts<A> {
     /// Nothing yet. It takes no memory.
     pub fn new(alloc: Global) -> Parts<A>
         ensures sound { IsFlat (kept_of A.lists result) }
@@ -41,7 +41,7 @@ impl<A: AntecedentLists> Parts<A> {
                 ants: AntecedentPair::none(),
                 index: StepIndex::new(alloc),
             },
-            ants: A::of_no_steps(alloc),
+            steps: A::of_no_steps(alloc),
         }
     }
 }
@@ -51,35 +51,25 @@ impl<A: AntecedentLists> Parts<A> {
 /// # Errors
 /// Out of memory. All that is whole is unchanged then.
 #[inline(always)]
-fn close_step<A: AntecedentLists>(
+fn close_step<A: StepLists>(
     lists: &mut Lists,
-    ants: &mut A,
+    steps: &mut A,
     number: u64,
 ) -> Result<(), AllocError>
     requires { is_used number lists.old.index ≡ false }
-    ensures closed { OnOk result (lists.new ≡ record lists.old {
-      lits = after_close lists.old.lits;
-      index = lists.old.index ++ number ∷ [];
-    }) }
-    ensures added { OnOk result
-        (A.lists ants.new ≡ A.lists ants.old ++ list_of_pair lists.old.ants ∷ []) }
+    ensures closed { OnOk result
+        (lists.new ≡ record lists.old { index = lists.old.index ++ number ∷ [] }) }
+    ensures added { OnOk result (A.lists steps.new
+        ≡ with_lists (A.lists steps.old) lists.old.lits.unfinished lists.old.ants) }
     ensures sound { OnOk result (AreStepNumbers lists.new.index) }
     ensures err { OnErr result (Stays lists.old lists.new) }
-    ensures kept { OnErr result (A.lists ants.new ≡ A.lists ants.old) }
+    ensures kept { OnErr result (A.lists steps.new ≡ A.lists steps.old) }
 {
-    lists.lits.close()?;
-    match ants.add(lists.ants) {
-        Ok(()) => {}
-        Err(refused) => {
-            lists.lits.pop();
-            return Err(refused);
-        }
-    }
+    steps.add(lists.lits.unfinished(), lists.ants)?;
     match lists.index.push(number) {
         Ok(()) => Ok(()),
         Err(refused) => {
-            ants.remove_last();
-            lists.lits.pop();
+            steps.remove_last();
             Err(refused)
         }
     }
@@ -100,7 +90,7 @@ fn free_long(vars: &mut Vec<Var>, alloc: Global) {
 /// # Errors
 /// Out of memory. All that is whole is unchanged then.
 #[inline(always)]
-pub fn close<A: AntecedentLists>(parts: &mut Parts<A>, part: Part) -> Result<(), AllocError>
+pub fn close<A: StepLists>(parts: &mut Parts<A>, part: Part) -> Result<(), AllocError>
     requires made { IsFlat (kept_of A.lists parts.old) }
     requires complete { IsComplete part parts.old.lists }
     ensures closed { OnOk result (ClosesPart A.lists parts.old parts.new part) }
@@ -117,7 +107,7 @@ pub fn close<A: AntecedentLists>(parts: &mut Parts<A>, part: Part) -> Result<(),
             Ok(())
         }
         Part::Step(number) => {
-            close_step(&mut parts.lists, &mut parts.ants, number)?;
+            close_step(&mut parts.lists, &mut parts.steps, number)?;
             Ok(())
         }
         Part::Result(_) => Ok(()),

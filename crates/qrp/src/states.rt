@@ -53,12 +53,12 @@ pub enum Part {
 /// The state that a token leads to, or why it is not taken.
 type Transition = Result<State, Stop<TraceFault>>;
 
-/// The lists of a trace, as far as it was read: those of whole steps, and unfinished ones.
+/// The unfinished lists of a trace, and the numbers of its whole steps.
 #[derive(Drop)]
 pub struct Lists {
     /// The variables of an unfinished set.
     pub vars: Vec<Var>,
-    /// The literals of an unfinished step, after those of whole steps if these are kept.
+    /// The literals of an unfinished step.
     pub lits: GrowingLists<Lit>,
     /// Its antecedents.
     pub ants: AntecedentPair,

@@ -16,19 +16,19 @@ use qbf_text::{Grammar, Progress, Scanner, Source, Stop, Taken, read_by};
 use qbf_tokens::{Comments, Token};
 use std::alloc::{AllocError, Global};
 use std::marker::Model;
-use trace_items::{AntecedentLists, Outcome};
+use trace_items::{Outcome, StepLists};
 use window_numbers::{Values, Zeros};
 
-/// A trace that is read as a whole. The antecedents of its whole steps are kept in an `A`.
+/// A trace that is read as a whole. The lists of its whole steps are kept in an `A`.
 ///
 /// Contracts see the trace that is made so far, and the state.
 #[derive(Drop)]
-pub struct TraceGrammar<A: AntecedentLists> {
+pub struct TraceGrammar<A: StepLists> {
     state: State,
     parts: Parts<A>,
 }
 
-impl<A: AntecedentLists> Model for TraceGrammar<A> {
+impl<A: StepLists> Model for TraceGrammar<A> {
     ghost use Rattle.qrp.specs.WholeTrace.{trace_at, AreSound, TraceRead};
 
     ghost Value = { TraceRead };
@@ -38,7 +38,7 @@ impl<A: AntecedentLists> Model for TraceGrammar<A> {
     ghost invariant = { λ g. AreSound A.lists g.state g.parts };
 }
 
-impl<A: AntecedentLists> TraceGrammar<A> {
+impl<A: StepLists> TraceGrammar<A> {
     /// At the beginning of a trace. It takes no memory.
     pub fn new(alloc: Global) -> TraceGrammar<A>
         ensures { result ≡ nothing_read }
@@ -124,7 +124,7 @@ impl<A: AntecedentLists> TraceGrammar<A> {
     }
 }
 
-impl<A: AntecedentLists> Grammar for TraceGrammar<A> {
+impl<A: StepLists> Grammar for TraceGrammar<A> {
     ghost use Rattle.qrp.specs.WholeTrace.{trace_row, TraceRead};
 
     type Output = ();
@@ -168,7 +168,7 @@ impl<A: AntecedentLists> Grammar for TraceGrammar<A> {
 ///
 /// # Errors
 /// As of `read_trace`.
-pub fn read_parts<A: AntecedentLists, S: Source>(
+pub fn read_parts<A: StepLists, S: Source>(
     alloc: Global,
     source: &mut S,
 ) -> Result<(Parts<A>, Outcome), (TraceFault, u64)>

@@ -1,22 +1,22 @@
 //! Writing the canonical text of a trace.
 
-ghost use Rattle.std.specs.Prelude.{◌≡◌, ◌<◌, Ok, length};
+ghost use Rattle.std.specs.Prelude.{◌≡◌, ◌<◌, ◌∷◌, ◌++◌, Ok, length};
 ghost use Rattle.std.proofs.Props.{props};
 ghost use Rattle.std.specs.List.{AllByRecursion, flat_map};
-ghost use Rattle.qbf_tokens.specs.Canonical.{line_text};
+ghost use Rattle.qbf_tokens.specs.Canonical.{line_text, spaced_number};
 ghost use Rattle.qbf_text.specs.Written.{IsPut};
 ghost use Rattle.trace_items.specs.Derivations.{steps_at, with_steps_at};
 ghost use Rattle.qrp.specs.Framed.{framed};
 ghost use Rattle.qrp.specs.Grammar.{header, result as result_line, text};
 ghost use Rattle.trace_items.specs.Inferences.{Inference, IsAt};
 ghost use Rattle.qrp.specs.Reading.{read_trace};
-ghost use Rattle.dimacs_syntax.specs.Texts.{set_text};
+ghost use Rattle.dimacs_syntax.specs.Texts.{closing, literal_text, set_text};
 ghost use Rattle.qrp.specs.Texts.{step_text, steps_text};
 
 use crate::compact_trace::CompactTrace;
 use crate::trace::Trace;
 use dimacs_syntax::{Bare, Bytes, HeaderLine, Put};
-use qbf_core::{Lit, Quantifier, Var};
+use qbf_core::{LitsLeft, Quantifier, Var};
 use qbf_text::{Sink, SinkFault, put_bytes};
 use trace_items::{Antecedents, Header, KeptSets, KeptSteps, LentSets, LentSteps, Outcome};
 
@@ -60,14 +60,52 @@ impl Put for ResultLine {
     }
 }
 
+/// Literals, read one by one.
+#[inline(always)]
+fn put_lits<K: Sink>(sink: &mut K, lits: LitsLeft) -> Result<(), SinkFault>
+    ensures { IsPut K.written K.failures K.failed_last sink.old sink.new
+        (flat_map literal_text lits.entry) result }
+{
+    let mut left = lits;
+    'literals: while let Some(lit) = left.next() {
+        lit.put(sink)?;
+    }
+    Ok(())
+}
+
+/// The rest of the line of a step after its literals, with these antecedents.
+#[inline(always)]
+fn put_ants<K: Sink>(sink: &mut K, ants: &[u64]) -> Result<(), SinkFault>
+    ensures { IsPut K.written K.failures K.failed_last sink.old sink.new
+        (32 ∷ 48 ∷ (flat_map spaced_number ants.now ++ closing)) result }
+{
+    (Bytes(b" 0"), (ants, Bytes(b" 0\n"))).put(sink)
+}
+
+/// The literals of a step, and the rest of its line.
+#[inline(always)]
+fn put_lists<K: Sink>(sink: &mut K, lits: LitsLeft, ants: &[u64]) -> Result<(), SinkFault>
+    ensures { IsPut K.written K.failures K.failed_last sink.old sink.new
+        (flat_map literal_text lits.entry
+        ++ (32 ∷ 48 ∷ (flat_map spaced_number ants.now ++ closing))) result }
+{
+    put_lits(sink, lits)?;
+    put_ants(sink, ants)
+}
+
 /// The line of a step with this number, these literals and these antecedents.
 #[inline(always)]
-fn put_line<K: Sink>(sink: &mut K, number: u64, lits: &[Lit], ants: &[u64]) -> Result<(), SinkFault>
+fn put_line<K: Sink>(
+    sink: &mut K,
+    number: u64,
+    lits: LitsLeft,
+    ants: &[u64],
+) -> Result<(), SinkFault>
     ensures { IsPut K.written K.failures K.failed_last sink.old sink.new
-        (step_text (record { number = number; lits = lits.now; ants = ants.now })) result }
+        (step_text (record { number = number; lits = lits.entry; ants = ants.now })) result }
 {
-    let lists = (lits, (Bytes(b" 0"), (ants, Bytes(b" 0\n"))));
-    (Bare(false, number), lists).put(sink)
+    Bare(false, number).put(sink)?;
+    put_lists(sink, lits, ants)
 }
 
 /// The line of a step.
@@ -81,7 +119,7 @@ fn put_step<K: Sink, T: KeptSteps>(
     ensures { (step : Inference) → IsAt (T.steps trace.now) position step
         → IsPut K.written K.failures K.failed_last sink.old sink.new (step_text step) result }
 {
-    let (number, lits) = (trace.number(position), trace.lits(position));
+    let (number, lits) = (trace.number(position), trace.lits_left(position));
     match trace.antecedents(position) {
         Antecedents::Empty => put_line(sink, number, lits, &[]),
         Antecedents::One(only) => put_line(sink, number, lits, &[only]),

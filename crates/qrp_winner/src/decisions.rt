@@ -10,9 +10,9 @@ ghost use Rattle.qrp_rules.specs.declared.rules.Rules.{Rules};
 ghost use Rattle.qrp_winner.specs.ProofDecisions.{AreAllThatSet};
 ghost use Rattle.qrp_winner.specs.Removing.{AddsDecision, AddsUnlessIdle};
 
-use crate::origins::{Search, origin_of};
+use crate::origins::{OriginBuffers, Search, origin_of};
 use crate::removing::{keep, remove_all, set_all};
-use qbf_core::{Formula, GrowingLists};
+use qbf_core::{Formula, GrowingLists, LitBuffer};
 use qbf_strategy::Decisions;
 use qrp::{KeptSteps, Outcome};
 use qrp_rules::{Clauses, Cubes, Side, reducible_in};
@@ -22,6 +22,9 @@ use std::alloc::{AllocError, Global};
 #[derive(Drop)]
 struct Walk {
     search: Search,
+    buffers: OriginBuffers,
+    /// Room for the literals of the step itself.
+    own: LitBuffer,
     /// Those that are made so far.
     decisions: Decisions,
 }
@@ -52,10 +55,16 @@ fn decide<S: Side, T: KeptSteps>(
         walk.old.decisions.kept.whole walk.old.decisions.removed.whole
         walk.new.decisions.kept.whole walk.new.decisions.removed.whole) }
 {
-    let lits = trace.lits(position);
+    let lits = trace.lits(position, &mut walk.own)?;
     let own = reducible_in(formula.prefix(), S::REDUCED, lits);
     keep(own, lits, &mut walk.decisions.kept)?;
-    let origin = origin_of::<S, T>(formula, trace, position, &mut walk.search)?;
+    let origin = origin_of::<S, T>(
+        formula,
+        trace,
+        position,
+        &mut walk.search,
+        &mut walk.buffers,
+    )?;
     set_all(&mut walk.search.seen, walk.decisions.kept.unfinished())?;
     walk.decisions.removed.begin();
     remove_all::<S>(
@@ -91,6 +100,11 @@ fn decisions_for<S: Side, T: KeptSteps>(
 {
     let mut walk = Walk {
         search: Search::new(alloc),
+        buffers: OriginBuffers {
+            first: LitBuffer::new(alloc),
+            second: LitBuffer::new(alloc),
+        },
+        own: LitBuffer::new(alloc),
         decisions: Decisions {
             kept: GrowingLists::new(alloc),
             removed: GrowingLists::new(alloc),

@@ -14,7 +14,7 @@ ghost use Rattle.qrp_rules.specs.declared.rules.Rules.{Rules};
 ghost use Rattle.qrp_winner.specs.Removing.{ComesFrom, IsClauseOf, IsInitialOf, IsPivotOf};
 
 use crate::removing::set_all;
-use qbf_core::{Formula, Lit, Quantifier};
+use qbf_core::{Formula, Lit, LitBuffer, Quantifier};
 use qrp::{Antecedents, KeptSteps};
 use qrp_rules::Side;
 use std::alloc::{AllocError, Global};
@@ -38,6 +38,13 @@ pub(crate) struct Search {
     pub seen: SeenLits,
     /// Where clauses of the formula are found.
     pub clauses: InitialClauses,
+}
+
+/// Room for the literals of the lists that a step comes from, for those that the trace cannot lend.
+#[derive(Drop)]
+pub(crate) struct OriginBuffers {
+    pub first: LitBuffer,
+    pub second: LitBuffer,
 }
 
 impl Search {
@@ -126,6 +133,7 @@ pub(crate) fn origin_of<'a, S: Side, T: KeptSteps>(
     trace: &'a T,
     position: usize,
     search: &mut Search,
+    buffers: &'a mut OriginBuffers,
 ) -> Result<Origin<'a>, AllocError>
     requires position { position < length (T.steps trace.now) }
     requires follows { (by : Rules) × StepFollows by S.side formula.now (T.steps trace.now) position }
@@ -135,16 +143,18 @@ pub(crate) fn origin_of<'a, S: Side, T: KeptSteps>(
 {
     match trace.antecedents(position) {
         Antecedents::Empty => {
-            let from = initial_of::<S>(formula, trace.lits(position), search)?;
+            let lits = trace.lits(position, &mut buffers.first)?;
+            let from = initial_of::<S>(formula, lits, search)?;
             Ok(Origin::Initial(from))
         }
         Antecedents::One(only) => {
             let from = earlier(trace, position, only);
-            Ok(Origin::One(trace.lits(from)))
+            let lits = trace.lits(from, &mut buffers.first)?;
+            Ok(Origin::One(lits))
         }
         Antecedents::Two(first, second) => {
-            let a = trace.lits(earlier(trace, position, first));
-            let b = trace.lits(earlier(trace, position, second));
+            let a = trace.lits(earlier(trace, position, first), &mut buffers.first)?;
+            let b = trace.lits(earlier(trace, position, second), &mut buffers.second)?;
             let pivot = pivot_of(a, b, &mut search.seen)?;
             Ok(Origin::Two(a, b, pivot))
         }

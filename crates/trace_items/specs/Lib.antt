@@ -2,3 +2,4 @@ pub mod Antecedents
 pub mod Inferences
 pub mod Derivations
 pub mod SetLists
+pub mod StepLists

@@ -17,11 +17,11 @@ follow_step-requires-clause-core g c = search (rules, is_marked)
 
 pub loop-position-preserved : goal.loop-position-preserved
 loop-position-preserved g c = elim c.if-marks-position.branch [
-  | then-marks-position+in_ok-follow_step w ↦ rw w.state-is w.in_ok-follow_step.ensures.follows
+  | then-marks-position+in_ok-follow_step w ↦ rw w.walk-is w.in_ok-follow_step.ensures.follows
   | else-marks-position w ↦
       let out : IsInCore (g.T.KeptSteps.steps c.args.trace.now) c.loop-position.position → ⊥ =
       (λ core. is_unmarked c.args.marks.now c.loop-position.position w.if-marks-position.false
       ((c.requires.core c.loop-position.position).1 core)) in
-      rw w.state-is (passed_over c.args.context.rules g.S.Side.side c.args.context.formula.now (g.T.KeptSteps.steps c.args.trace.now)
-      c.loop-position.position c.loop-position.state out c.loop-position.invariant)
+      rw w.walk-is (passed_over c.args.context.rules g.S.Side.side c.args.context.formula.now (g.T.KeptSteps.steps c.args.trace.now)
+      c.loop-position.position c.loop-position.walk.state out c.loop-position.invariant)
 ]

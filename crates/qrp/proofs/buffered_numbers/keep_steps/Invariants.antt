@@ -7,8 +7,8 @@ use Rattle.qrp.proofs.buffered_numbers.keep_steps.Given as goal
 
 abbrev pub invariant-steps : goal.invariant-steps
 invariant-steps g l = record {
-  leads : LeadsOver trace_row (trace_at g.A.AntecedentLists.lists l.fn.parts Between) (trace_at g.A.AntecedentLists.lists l.parts Between) (numbers_of l.values) l.fn.start.0 l.from;
-  flat : IsFlat (kept_of g.A.AntecedentLists.lists l.parts);
+  leads : LeadsOver trace_row (trace_at g.A.StepLists.lists l.fn.parts Between) (trace_at g.A.StepLists.lists l.parts Between) (numbers_of l.values) l.fn.start.0 l.from;
+  flat : IsFlat (kept_of g.A.StepLists.lists l.parts);
   within : l.from ≤ length (numbers_of l.values);
 }
 

@@ -12,11 +12,11 @@ returns-clause-leads g c =
     let n = c.in-Some.number in
     let taken = rw c.in-Some.is at c.in_ok-number.ensures.leads in
     let zero = c.if-not-surely_zero.ensures in
-    let leads = step_leads g.A.AntecedentLists.lists c.args.parts.now b (state_at c.args.parts.now.lists Between) (state_at b (InAnts n)) (numbers_of c.args.values)
+    let leads = step_leads g.A.StepLists.lists c.args.parts.now b (state_at c.args.parts.now.lists Between) (state_at b (InAnts n)) (numbers_of c.args.values)
     c.args.next.from c.in-Some.to c.take_whole.ensures.stays taken.1 in (
       omega (arith, taken.1.counted),
       omega (arith, zero.within refl),
-      step_kept g.A.AntecedentLists.lists _ p c.close.new.parts n (numbers_of c.args.values) c.args.next.from c.in-Some.to (zero.zero refl) leads c.in_ok-close.ensures.closed,
+      step_kept g.A.StepLists.lists _ p c.close.new.parts n (numbers_of c.args.values) c.args.next.from c.in-Some.to (zero.zero refl) leads c.in_ok-close.ensures.closed,
     )
 
 pub overflow_add-result : goal.overflow_add-result

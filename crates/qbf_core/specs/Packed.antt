@@ -1,0 +1,38 @@
+-- Literals in bytes: those of a list take one byte each, two or four, as the first byte says.
+use Rattle.std.specs.Prelude.{ℕ, zero, suc, List, [], ◌∷◌, map}
+use Rattle.std.specs.List.{AllByRecursion, flat_map}
+use Rattle.std.specs.Int.{w8, w16, w32, Width, from_le_bytes, to_le_bytes, cast_signed, cast_unsigned}
+use Rattle.qbf_core.specs.Blocks.{IsVariable}
+use Rattle.qbf_core.specs.Literal.{Literal, signed}
+use Rattle.qbf_core.specs.WrittenLiterals.{literal_of}
+
+-- the literal that these bytes are, the lowest first
+abbrev pub literal_in : Width → List ℕ → Literal
+literal_in w bytes = literal_of (cast_signed w (from_le_bytes w bytes))
+
+-- the literals of one byte each, of two, and of four
+abbrev pub ones : List ℕ → List Literal
+ones bytes = map (λ a. literal_in w8 (a ∷ [])) bytes
+
+abbrev pub twos : List ℕ → List Literal
+twos (a ∷ b ∷ bytes) = literal_in w16 (a ∷ b ∷ []) ∷ twos bytes
+twos bytes = []
+
+abbrev pub fours : List ℕ → List Literal
+fours (a ∷ b ∷ c ∷ d ∷ bytes) = literal_in w32 (a ∷ b ∷ c ∷ d ∷ []) ∷ fours bytes
+fours bytes = []
+
+-- the literals of a list of bytes, of which the first says how many each of them takes
+abbrev pub unpacked : List ℕ → List Literal
+unpacked [] = []
+unpacked (suc zero ∷ bytes) = ones bytes
+unpacked (suc (suc zero) ∷ bytes) = twos bytes
+unpacked (width ∷ bytes) = fours bytes
+
+-- the bytes of literals that take so many each
+abbrev pub packed : Width → List Literal → List ℕ
+packed w lits = flat_map (λ l. to_le_bytes w (cast_unsigned w (signed l))) lits
+
+-- each is a literal of a variable
+abbrev pub AreLiterals : List Literal → Type 0
+AreLiterals lits = AllByRecursion (λ l. IsVariable l.var) lits

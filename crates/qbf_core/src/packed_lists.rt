@@ -1,0 +1,374 @@
+//! Lists of literals in bytes: those of a list take one byte each, two or four.
+
+ghost use Rattle.std.specs.Prelude.{◌≡◌, ◌≤◌, ◌<◌, [], ◌∷◌, ◌++◌, length, IfOk, IfSome, OnOk, OnErr, take, ◌-◌};
+ghost use Rattle.std.specs.Prelude.{slice_get, IsTrue, Some};
+ghost use Rattle.std.specs.List.{AllByRecursion};
+ghost use Rattle.std.specs.Int.{w8, w16, w32};
+ghost use Rattle.qbf_core.specs.Blocks.{IsVariable};
+ghost use Rattle.qbf_core.specs.Packed.{fours, literal_in, ones, packed, twos, unpacked, AreLiterals};
+
+use crate::lists::GrowingLists;
+use crate::literal::Lit;
+use crate::lits_left::LitsLeft;
+use crate::ranges::see_all;
+use std::alloc::{AllocError, Global};
+use std::marker::Model;
+
+/// A number that no variable of these literals exceeds.
+#[inline(always)]
+#[tactic(auto, using(crate::proofs::Packing::wider))]
+fn largest(lits: &[Lit]) -> u32
+    ensures { AllByRecursion (λ l. l.var ≤ result) lits.now }
+{
+    let mut largest = 0;
+    let mut place = 0;
+    'literals: while place < lits.len() {
+        largest = lits[place].var().number().max(largest);
+        place += 1;
+    }
+    largest
+}
+
+/// The byte of a literal of a variable up to 127.
+#[inline(always)]
+fn byte_of(lit: Lit) -> u8
+    requires { lit.var ≤ 127 }
+    ensures { result ∷ [] ≡ packed w8 (lit ∷ []) }
+{
+    let [byte] = (lit.written() as i8).to_le_bytes();
+    byte
+}
+
+/// Adds literals of variables up to 127, in one byte each.
+///
+/// # Errors
+/// Out of memory. The whole lists are unchanged then.
+#[inline(always)]
+fn put_ones(bytes: &mut GrowingLists<u8>, lits: &[Lit]) -> Result<(), AllocError>
+    requires { AllByRecursion (λ l. l.var ≤ 127) lits.now }
+    ensures put { OnOk result (bytes.new ≡ record bytes.old {
+      unfinished = bytes.old.unfinished ++ packed w8 lits.now;
+    }) }
+    ensures kept { bytes.new.whole ≡ bytes.old.whole }
+{
+    let mut left = lits;
+    'fours: while let [a, b, c, d, rest @ ..] = left {
+        bytes.extend(&[byte_of(*a), byte_of(*b), byte_of(*c), byte_of(*d)])?;
+        left = rest;
+    }
+    'literals: while let [lit, rest @ ..] = left {
+        bytes.push(byte_of(*lit))?;
+        left = rest;
+    }
+    Ok(())
+}
+
+/// Adds a literal of a variable up to 32767 in two bytes.
+///
+/// # Errors
+/// Out of memory. Nothing is changed then.
+#[inline(always)]
+fn put_two(bytes: &mut GrowingLists<u8>, lit: Lit) -> Result<(), AllocError>
+    requires { lit.var ≤ 32767 }
+    ensures put { OnOk result (bytes.new ≡ record bytes.old {
+      unfinished = bytes.old.unfinished ++ packed w16 (lit ∷ []);
+    }) }
+    ensures kept { bytes.new.whole ≡ bytes.old.whole }
+{
+    bytes.extend(&(lit.written() as i16).to_le_bytes())
+}
+
+/// Adds literals of variables up to 32767, in two bytes each.
+///
+/// # Errors
+/// Out of memory. The whole lists are unchanged then.
+#[inline(always)]
+fn put_twos(bytes: &mut GrowingLists<u8>, lits: &[Lit]) -> Result<(), AllocError>
+    requires { AllByRecursion (λ l. l.var ≤ 32767) lits.now }
+    ensures put { OnOk result (bytes.new ≡ record bytes.old {
+      unfinished = bytes.old.unfinished ++ packed w16 lits.now;
+    }) }
+    ensures kept { bytes.new.whole ≡ bytes.old.whole }
+{
+    let mut left = lits;
+    'literals: while let [lit, rest @ ..] = left {
+        put_two(bytes, *lit)?;
+        left = rest;
+    }
+    Ok(())
+}
+
+/// Adds a literal in four bytes.
+///
+/// # Errors
+/// Out of memory. Nothing is changed then.
+#[inline(always)]
+fn put_four(bytes: &mut GrowingLists<u8>, lit: Lit) -> Result<(), AllocError>
+    ensures put { OnOk result (bytes.new ≡ record bytes.old {
+      unfinished = bytes.old.unfinished ++ packed w32 (lit ∷ []);
+    }) }
+    ensures kept { bytes.new.whole ≡ bytes.old.whole }
+{
+    bytes.extend(&lit.written().to_le_bytes())
+}
+
+/// Adds literals in four bytes each.
+///
+/// # Errors
+/// Out of memory. The whole lists are unchanged then.
+#[inline(always)]
+fn put_fours(bytes: &mut GrowingLists<u8>, lits: &[Lit]) -> Result<(), AllocError>
+    ensures put { OnOk result (bytes.new ≡ record bytes.old {
+      unfinished = bytes.old.unfinished ++ packed w32 lits.now;
+    }) }
+    ensures kept { bytes.new.whole ≡ bytes.old.whole }
+{
+    let mut left = lits;
+    'literals: while let [lit, rest @ ..] = left {
+        put_four(bytes, *lit)?;
+        left = rest;
+    }
+    Ok(())
+}
+
+/// The literal of a byte.
+#[inline(always)]
+pub(crate) fn of_one(a: u8) -> Lit
+    requires { IsVariable (literal_in w8 (a ∷ [])).var }
+    ensures { result ≡ literal_in w8 (a ∷ []) }
+{
+    Lit::of_written(i32::from(i8::from_le_bytes([a])))
+}
+
+/// The literal of two bytes.
+#[inline(always)]
+pub(crate) fn of_two(a: u8, b: u8) -> Lit
+    requires { IsVariable (literal_in w16 (a ∷ b ∷ [])).var }
+    ensures { result ≡ literal_in w16 (a ∷ b ∷ []) }
+{
+    Lit::of_written(i32::from(i16::from_le_bytes([a, b])))
+}
+
+/// The literal of four bytes.
+#[inline(always)]
+pub(crate) fn of_four(bytes: [u8; 4]) -> Lit
+    requires { IsVariable (literal_in w32 bytes).var }
+    ensures { result ≡ literal_in w32 bytes }
+{
+    Lit::of_written(i32::from_le_bytes(bytes))
+}
+
+/// Adds the literals of bytes that are one each.
+///
+/// # Errors
+/// Out of memory.
+#[inline(always)]
+fn take_ones(items: &mut Vec<Lit>, bytes: &[u8]) -> Result<(), AllocError>
+    requires { AreLiterals (ones bytes.now) }
+    ensures { OnOk result (items.new.items ≡ items.old.items ++ ones bytes.now) }
+{
+    let mut left = bytes;
+    'fours: while let [a, b, c, d, rest @ ..] = left {
+        items.extend_from_slice(&[of_one(*a), of_one(*b), of_one(*c), of_one(*d)])?;
+        left = rest;
+    }
+    'literals: while let [a, rest @ ..] = left {
+        items.push(of_one(*a))?;
+        left = rest;
+    }
+    Ok(())
+}
+
+/// Adds the literals of bytes of which two are one.
+///
+/// # Errors
+/// Out of memory.
+#[inline(always)]
+#[tactic(auto, using(crate::proofs::Packing::no_two))]
+fn take_twos(items: &mut Vec<Lit>, bytes: &[u8]) -> Result<(), AllocError>
+    requires { AreLiterals (twos bytes.now) }
+    ensures { OnOk result (items.new.items ≡ items.old.items ++ twos bytes.now) }
+{
+    let mut left = bytes;
+    'literals: while let [a, b, rest @ ..] = left {
+        items.push(of_two(*a, *b))?;
+        left = rest;
+    }
+    Ok(())
+}
+
+/// Adds the literals of bytes of which four are one.
+///
+/// # Errors
+/// Out of memory.
+#[inline(always)]
+#[tactic(auto, using(crate::proofs::Packing::no_four))]
+fn take_fours(items: &mut Vec<Lit>, bytes: &[u8]) -> Result<(), AllocError>
+    requires { AreLiterals (fours bytes.now) }
+    ensures { OnOk result (items.new.items ≡ items.old.items ++ fours bytes.now) }
+{
+    let mut left = bytes;
+    'literals: while let [a, b, c, d, rest @ ..] = left {
+        items.push(of_four([*a, *b, *c, *d]))?;
+        left = rest;
+    }
+    Ok(())
+}
+
+/// Literals of one list, in four bytes each.
+#[derive(Drop)]
+pub struct LitBuffer {
+    items: Vec<Lit>,
+}
+
+impl LitBuffer {
+    /// No literals. It takes no memory yet.
+    pub fn new(alloc: Global) -> LitBuffer {
+        LitBuffer {
+            items: Vec::new(alloc),
+        }
+    }
+
+    /// Gives the literals of a list of bytes.
+    ///
+    /// # Errors
+    /// Out of memory.
+    #[inline(always)]
+    fn fill(&mut self, bytes: &[u8]) -> Result<&[Lit], AllocError>
+        requires { AreLiterals (unpacked bytes.now) }
+        ensures { IfOk result (λ lits. lits.now ≡ unpacked bytes.now) }
+    {
+        self.items.clear();
+        match bytes {
+            [] => {}
+            [1, rest @ ..] => take_ones(&mut self.items, rest)?,
+            [2, rest @ ..] => take_twos(&mut self.items, rest)?,
+            [_, rest @ ..] => take_fours(&mut self.items, rest)?,
+        }
+        Ok(&self.items)
+    }
+}
+
+/// Whether literals take one byte each.
+#[inline(always)]
+fn surely_in_one(largest: u32) -> bool
+    ensures { IsTrue result → largest ≤ 127 }
+{
+    largest <= 127
+}
+
+/// Whether literals take no more than two bytes each.
+#[inline(always)]
+fn surely_in_two(largest: u32) -> bool
+    ensures { IsTrue result → largest ≤ 32767 }
+{
+    largest <= 32767
+}
+
+/// Adds literals in as many bytes each as the largest of them needs, after a byte that says how
+/// many.
+///
+/// # Errors
+/// Out of memory. The whole lists are unchanged then.
+#[inline(always)]
+#[tactic(auto, using(crate::proofs::Packing::wider, crate::proofs::Packing::ones_packed, crate::proofs::Packing::twos_packed, crate::proofs::Packing::fours_packed))]
+fn put_packed(bytes: &mut GrowingLists<u8>, lits: &[Lit]) -> Result<(), AllocError>
+    requires empty { bytes.old.unfinished ≡ [] }
+    requires literals { AreLiterals lits.now }
+    ensures put { OnOk result (unpacked bytes.new.unfinished ≡ lits.now) }
+    ensures kept { bytes.new.whole ≡ bytes.old.whole }
+{
+    if lits.is_empty() {
+        return Ok(());
+    }
+    let largest = largest(lits);
+    if surely_in_one(largest) {
+        bytes.push(1)?;
+        put_ones(bytes, lits)
+    } else if surely_in_two(largest) {
+        bytes.push(2)?;
+        put_twos(bytes, lits)
+    } else {
+        bytes.push(4)?;
+        put_fours(bytes, lits)
+    }
+}
+
+/// Lists of literals in one list of bytes. Contracts see the lists.
+#[derive(Drop)]
+pub struct PackedLists {
+    /// The bytes of each list. The first says how many each of its literals takes.
+    bytes: GrowingLists<u8>,
+}
+
+impl Model for PackedLists {
+    ghost use Rattle.std.specs.Prelude.{List, ◌≡◌, map, []};
+    ghost use Rattle.std.specs.List.{AllByRecursion};
+    ghost use Rattle.qbf_core.specs.Literal.{Literal};
+    ghost use Rattle.qbf_core.specs.Packed.{unpacked, AreLiterals};
+
+    ghost Value = { List (List Literal) };
+
+    ghost view = { λ p. map unpacked p.bytes.whole };
+
+    ghost invariant = { λ p. AllByRecursion (λ bytes. AreLiterals (unpacked bytes)) p.bytes.whole };
+}
+
+impl PackedLists {
+    /// No lists. It takes no memory yet.
+    pub fn new(alloc: Global) -> PackedLists
+        ensures { result ≡ [] }
+    {
+        PackedLists {
+            bytes: GrowingLists::new(alloc),
+        }
+    }
+
+    /// The list at place `i`, counted from 0, which is put into the buffer: `i` is below the number
+    /// of lists.
+    ///
+    /// # Errors
+    /// Out of memory.
+    #[inline(always)]
+    #[tactic(auto, using(crate::proofs::Packing::list_at, crate::proofs::Packing::literals_at))]
+    pub fn unpack<'a>(&self, i: usize, buffer: &'a mut LitBuffer) -> Result<&'a [Lit], AllocError>
+        requires { i < length self.now }
+        ensures { IfOk result (λ lits. slice_get self.now i ≡ Some lits.now) }
+    {
+        buffer.fill(self.bytes.get(i))
+    }
+
+    /// The literals of the list at place `i`, to be read one by one, which takes no memory: `i` is
+    /// below the number of lists.
+    #[inline(always)]
+    #[tactic(auto, using(crate::proofs::Packing::list_at, crate::proofs::Packing::literals_at))]
+    pub fn left(&self, i: usize) -> LitsLeft<'_>
+        requires { i < length self.now }
+        ensures { slice_get self.now i ≡ Some result }
+    {
+        LitsLeft::of_bytes(self.bytes.get(i))
+    }
+
+    /// Adds a list.
+    ///
+    /// # Errors
+    /// Out of memory. Nothing is changed then.
+    #[inline(always)]
+    pub fn add(&mut self, lits: &[Lit]) -> Result<(), AllocError>
+        ensures added { OnOk result (self.new ≡ self.old ++ lits.now ∷ []) }
+        ensures err { OnErr result (self.new ≡ self.old) }
+    {
+        see_all(lits);
+        self.bytes.begin();
+        put_packed(&mut self.bytes, lits)?;
+        self.bytes.close()
+    }
+
+    /// Takes the last list away, if there is one.
+    #[tactic(auto, using(crate::proofs::Packing::last_taken, crate::proofs::Packing::all_first))]
+    pub fn pop(&mut self)
+        ensures { self.new ≡ take (length self.old - 1) self.old }
+    {
+        self.bytes.pop();
+    }
+}
