@@ -51,7 +51,7 @@ impl DistinctLits {
     /// # Errors
     /// If an allocation fails.
     #[inline(always)]
-    pub(crate) fn lits<'a, T: KeptSteps>(
+    pub(crate) fn members<'a, T: KeptSteps>(
         &'a self,
         trace: &'a T,
         position: usize,
@@ -66,7 +66,7 @@ impl DistinctLits {
                 return Ok(lits);
             }
         }
-        trace.lits(position, buffer)
+        trace.unpacked(position, buffer)
     }
 
     /// Keeps the unfinished list as that of the step at a position.

@@ -136,7 +136,7 @@ fn follow_step<S: Side, T: KeptSteps>(
     ensures refused { IfErr result
         (IsCoreFault context.entry.rules S.side context.entry.formula.now (T.steps trace.now)) }
 {
-    let lits = match trace.lits(position, &mut walk.own) {
+    let lits = match trace.unpacked(position, &mut walk.own) {
         Ok(lits) => lits,
         Err(_) => return Err(CoreFault::OutOfMemory),
     };

@@ -54,7 +54,7 @@ pub(crate) fn find_premises<'a, T: KeptSteps>(
             let Some(from) = hints.find_again(trace, position, only) else {
                 return Ok(None);
             };
-            let lits = distinct.lits(trace, from, &mut buffers.first)?;
+            let lits = distinct.members(trace, from, &mut buffers.first)?;
             Ok(Some(Premises::One(lits)))
         }
         Antecedents::Two(first, second) => {
@@ -65,8 +65,8 @@ pub(crate) fn find_premises<'a, T: KeptSteps>(
             let Some(a) = hints.find_again(trace, position, first) else {
                 return Ok(None);
             };
-            let lits_of_a = distinct.lits(trace, a, &mut buffers.first)?;
-            let lits_of_b = distinct.lits(trace, b, &mut buffers.second)?;
+            let lits_of_a = distinct.members(trace, a, &mut buffers.first)?;
+            let lits_of_b = distinct.members(trace, b, &mut buffers.second)?;
             Ok(Some(Premises::Two(lits_of_a, lits_of_b)))
         }
     }

@@ -11,11 +11,11 @@ use Rattle.qcir.specs.declared.fault.QuestionFault.{QuestionFault}
 use Rattle.qcir.proofs.Spelled.{reads_questions}
 use Rattle.qrp_rules.specs.declared.rules.Rules.{Rules}
 use Rattle.qrp_check.specs.Checked.{SourceCall, WasReadFrom, truth_of}
-use Rattle.qrp_check.specs.Verdict.{is_sat}
+use Rattle.trace_check.specs.Proof.{is_sat}
 use Rattle.qrp_check.specs.declared.verdict.Fault.{Fault}
-use Rattle.qrp_check.specs.declared.verdict.Verified.{Verified}
+use Rattle.trace_check.specs.declared.verified.Verified.{Verified}
 use Rattle.qrp_check.proofs.HeadlineOfVerdict.{trace_spelled}
-use Rattle.qrp_winner.specs.Sizes.{IsTooLong}
+use Rattle.proof_decisions.specs.Sizes.{IsTooLong}
 use Rattle.qrp_winner.specs.Strategies.{winner}
 use Rattle.qrp_winner.specs.Strategies as clauses
 use Rattle.qrp_winner.specs.declared.fault.StrategyFault.{StrategyFault}

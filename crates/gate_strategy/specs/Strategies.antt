@@ -7,8 +7,8 @@ use Rattle.trace_items.specs.Derivations.{Derivation}
 use Rattle.qcir.specs.Reading.{Question}
 use Rattle.qrp_rules.specs.declared.rules.Rules.{Rules}
 use Rattle.qrp_check.specs.Checked.{SourceCall}
-use Rattle.qrp_check.specs.Verdict.{is_sat}
-use Rattle.qrp_winner.specs.Sizes.{IsTooLong}
+use Rattle.trace_check.specs.Proof.{is_sat}
+use Rattle.proof_decisions.specs.Sizes.{IsTooLong}
 use Rattle.qrp_winner.specs.Strategies.{winner}
 use Rattle.qrp_winner.specs.declared.fault.StrategyFault.{StrategyFault}
 use Rattle.qrp_winner.specs.declared.fault.StrategyFault.TheVariants as clauses

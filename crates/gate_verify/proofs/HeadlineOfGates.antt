@@ -14,14 +14,13 @@ use Rattle.qcir.specs.declared.fault.QuestionFault.{QuestionFault}
 use Rattle.qcir.proofs.Spelled.{reads_questions}
 use Rattle.qrp_rules.specs.declared.rules.Rules.{Rules}
 use Rattle.qrp_check.specs.Checked.{truth_of}
-use Rattle.qrp_check.specs.Proof.{IsProof}
-use Rattle.qrp_check.specs.Verdict.{is_sat}
+use Rattle.trace_check.specs.Proof.{IsProof, is_sat}
 use Rattle.qrp_check.specs.Verdict as verdicts
 use Rattle.qrp_check.specs.declared.verdict.Fault.{Fault}
 use Rattle.qrp_check.specs.declared.verdict.Fault.TheVariants as faults
-use Rattle.qrp_check.specs.declared.verdict.Verified.{Verified}
+use Rattle.trace_check.specs.declared.verified.Verified.{Verified}
 use Rattle.qrp_check.proofs.HeadlineOfVerdict.{trace_spelled}
-use Rattle.qrp_check.proofs.Verdicts.{verdict_is_one}
+use Rattle.trace_check.proofs.Verdicts.{verdict_is_one}
 use Rattle.gate_verify.specs.declared.fault.Unverified.{Unverified}
 use Rattle.gate_verify.specs.declared.fault.Unverified.TheVariants as fault
 use Rattle.gate_verify.specs.Laws.{in_clauses}

@@ -4,9 +4,8 @@ use Rattle.std.proofs.lemmas.Bool.{false≢true}
 use Rattle.qbf_core.specs.Truth.{IsTrueFormula, ResultHolds}
 use Rattle.trace_items.specs.declared.item.Outcome.{Outcome}
 use Rattle.trace_items.specs.declared.item.Outcome.TheVariants.{Sat, Unsat}
-use Rattle.qrp_check.specs.Proof.{side_of}
-use Rattle.qrp_check.specs.Verdict.{is_sat}
-use Rattle.qrp_check.proofs.Soundness.{soundness}
+use Rattle.trace_check.specs.Proof.{side_of, is_sat}
+use Rattle.trace_check.proofs.Soundness.{soundness}
 use Rattle.qbf_gates.specs.Gates.{GateFormula, IsWellFormed, names}
 use Rattle.qbf_gates.specs.Truth.{IsTrueGates}
 use Rattle.gate_clauses.specs.Begun.{greatest}

@@ -15,7 +15,7 @@ use Rattle.qrp_check.specs.Checked.{SourceCall, IsCheckedOf, IsTruthOf, truth_of
 use Rattle.qrp_check.specs.Checked as check
 use Rattle.qrp_check.specs.Verdict as verdicts
 use Rattle.qrp_check.specs.declared.verdict.Fault.{Fault}
-use Rattle.qrp_check.specs.declared.verdict.Verified.{Verified}
+use Rattle.trace_check.specs.declared.verified.Verified.{Verified}
 use Rattle.gate_verify.specs.declared.fault.Unverified.{Unverified}
 use Rattle.gate_verify.specs.declared.fault.Unverified.TheVariants as fault
 use Rattle.gate_verify.specs.Laws.{in_clauses}

@@ -2,7 +2,7 @@
 use Rattle.std.specs.Prelude.{◌≡◌, ℕ, Result, Ok, Err}
 use Rattle.qcir.specs.declared.fault.QuestionFault.TheVariants.{Q1, Q11}
 use Rattle.qrp_check.specs.declared.verdict.Fault.{Fault}
-use Rattle.qrp_check.specs.declared.verdict.Verified.{Verified}
+use Rattle.trace_check.specs.declared.verified.Verified.{Verified}
 use Rattle.qrp_check.specs.Verdict as check
 use Rattle.gate_verify.specs.declared.fault.Unverified.{Unverified}
 use Rattle.gate_verify.specs.declared.fault.Unverified.TheVariants as fault

@@ -10,8 +10,7 @@ use Rattle.qbf_gates.specs.Truth.{IsTrueGates}
 use Rattle.trace_items.specs.Derivations.{Derivation}
 use Rattle.qrp.specs.Grammar.{IsTrace}
 use Rattle.qrp_rules.specs.declared.rules.Rules.{Rules}
-use Rattle.qrp_check.specs.Proof.{IsProof}
-use Rattle.qrp_check.specs.Verdict.{is_sat}
+use Rattle.trace_check.specs.Proof.{IsProof, is_sat}
 use Rattle.qcir.specs.Reading.{Question}
 use Rattle.qcir.specs.Grammar.{IsQuestion}
 use Rattle.gate_verify.specs.declared.fault.Unverified.{Unverified}

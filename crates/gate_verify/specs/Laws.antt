@@ -3,8 +3,7 @@ use Rattle.std.specs.Prelude.{◌↔◌, ℕ, IsTrue, List}
 use Rattle.qbf_core.specs.Qbf.{Qbf}
 use Rattle.trace_items.specs.Derivations.{Derivation}
 use Rattle.qrp_rules.specs.declared.rules.Rules.{Rules}
-use Rattle.qrp_check.specs.Proof.{IsProof}
-use Rattle.qrp_check.specs.Verdict.{is_sat}
+use Rattle.trace_check.specs.Proof.{IsProof, is_sat}
 use Rattle.qbf_gates.specs.Gates.{GateFormula, IsWellFormed, names}
 use Rattle.qbf_gates.specs.Truth.{IsTrueGates}
 use Rattle.gate_clauses.specs.Begun.{greatest}

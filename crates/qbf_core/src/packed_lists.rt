@@ -234,7 +234,7 @@ impl LitBuffer {
     /// # Errors
     /// Out of memory.
     #[inline(always)]
-    fn fill(&mut self, bytes: &[u8]) -> Result<&[Lit], AllocError>
+    fn hold(&mut self, bytes: &[u8]) -> Result<&[Lit], AllocError>
         requires { AreLiterals (unpacked bytes.now) }
         ensures { IfOk result (λ lits. lits.now ≡ unpacked bytes.now) }
     {
@@ -335,7 +335,7 @@ impl PackedLists {
         requires { i < length self.now }
         ensures { IfOk result (λ lits. slice_get self.now i ≡ Some lits.now) }
     {
-        buffer.fill(self.bytes.get(i))
+        buffer.hold(self.bytes.get(i))
     }
 
     /// The literals of the list at place `i`, to be read one by one, which takes no memory: `i` is

@@ -6,9 +6,10 @@ use Rattle.qdimacs.specs.Reading.{read_formula}
 use Rattle.qrp.specs.Reading.{read_trace}
 use Rattle.qrp_check.proofs.HeadlineOfVerdict.{Found, found_of}
 use Rattle.qrp_check.specs.Checked.{IsChecked, IsTruthOf}
-use Rattle.qrp_check.specs.Verdict.{IsVerdictUnless, is_sat}
+use Rattle.trace_check.specs.Proof.{is_sat}
+use Rattle.qrp_check.specs.Verdict.{IsVerdictUnless}
 use Rattle.qrp_check.specs.declared.verdict.Fault.{Fault}
-use Rattle.qrp_check.specs.declared.verdict.Verified.{Verified}
+use Rattle.trace_check.specs.declared.verified.Verified.{Verified}
 use Rattle.qrp_winner.specs.Strategies.{Follows, HasReason, IsOfWinner}
 use Rattle.qrp_winner.specs.declared.fault.StrategyFault.{StrategyFault}
 use Rattle.qrp_winner.specs.declared.fault.StrategyFault.TheVariants.{Check, NoCircuit}

@@ -7,10 +7,10 @@ use Rattle.qbf_core.proofs.DistinctNumbers.{all_at}
 use Rattle.trace_items.specs.Derivations.{Derivation, steps_at}
 use Rattle.trace_items.specs.Inferences.{Inference, IsAt, numbers}
 use Rattle.qrp_rules.specs.declared.rules.Rules.{Rules}
-use Rattle.qrp_check.proofs.StepsAt.{next_at}
-use Rattle.qrp_check.specs.Verdict.{is_sat}
+use Rattle.trace_check.proofs.StepsAt.{next_at}
+use Rattle.trace_check.specs.Proof.{is_sat}
 use Rattle.qrp_check.specs.declared.verdict.Fault.{Fault}
-use Rattle.qrp_check.specs.declared.verdict.Verified.{Verified}
+use Rattle.trace_check.specs.declared.verified.Verified.{Verified}
 use Rattle.qrp_report.specs.declared.refusal.Refusal.{Refusal}
 use Rattle.qrp_report.specs.Lines.{refusal_line}
 use Rattle.qrp_report.specs.OfFaults.{IsOfFault, NamesVariable}

@@ -2,7 +2,7 @@
 use Rattle.std.proofs.Common.{rules, ◌≡◌, ◌↔◌, ℕ, Bool, IsTrue, List, inl, inr, refl, ap, ◌∙◌, subst, ◌⊎◌, if◌then◌else◌, Result, Ok, Err, IsOk}
 use Rattle.qbf_core.specs.Truth.{IsTrueFormula}
 use Rattle.qrp_rules.specs.declared.rules.Rules.{Rules}
-use Rattle.qrp_check.specs.declared.verdict.Verified.{Verified}
+use Rattle.trace_check.specs.declared.verified.Verified.{Verified}
 use Rattle.qrp_check.specs.declared.verdict.Fault.{Fault}
 use Rattle.qrp_check.specs.Verdict.{IsOutOfMemory, IsFormulaDevice, IsTraceDevice}
 use Rattle.qrp_check.specs.Checked.{truth_of}

@@ -4,7 +4,7 @@ use Rattle.std.proofs.Common.{Result, decimal}
 use Rattle.std.proofs.lemmas.Grind.{common_steps}
 use Rattle.std.proofs.lemmas.Fmt.{length-decimal-le}
 use Rattle.qbf_text.specs.Written.{IsPut}
-use Rattle.qrp_check.specs.declared.verdict.Verified.{Verified}
+use Rattle.trace_check.specs.declared.verified.Verified.{Verified}
 use Rattle.qrp_check.specs.declared.verdict.Fault.{Fault}
 use Rattle.qrp_report.specs.declared.refusal.Refusal.{Refusal}
 use Rattle.qrp_report.specs.Lines.{numbers_line, text_line, check_line, refusal_line, verdict_line}

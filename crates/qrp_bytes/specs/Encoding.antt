@@ -1,6 +1,6 @@
 -- The struct that a caller in C gets for a result.
 use Rattle.std.specs.Prelude.{◌≡◌, ◌⊎◌, ℕ, Bool, if◌then◌else◌, List, ◌∷◌, [], IfErr, Result, Ok, Err}
-use Rattle.qrp_check.specs.declared.verdict.Verified.{Verified}
+use Rattle.trace_check.specs.declared.verified.Verified.{Verified}
 use Rattle.qrp_check.specs.declared.verdict.Fault.{Fault}
 use Rattle.qrp_report.specs.declared.refusal.Refusal.{Refusal}
 use Rattle.qrp_report.specs.Lines.{fault_line, verdict_line}

@@ -10,7 +10,7 @@ use Rattle.trace_items.specs.Inferences.{numbers}
 use Rattle.qrp_rules.specs.declared.rules.Rules.{Rules}
 use Rattle.qrp_check.specs.declared.verdict.Fault.{Fault}
 use Rattle.qrp_check.specs.declared.verdict.Fault.TheVariants as fault
-use Rattle.qrp_check.specs.Verdict.{is_sat}
+use Rattle.trace_check.specs.Proof.{is_sat}
 use Rattle.qrp_check.specs.Checked.{SourceCall}
 use Rattle.qrp_report.specs.OfFaults.{NamesVariable}
 use Rattle.qrp_report.specs.Results.{IsTrimmed, IsFormulaRead}

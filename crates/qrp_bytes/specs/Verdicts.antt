@@ -6,10 +6,10 @@ use Rattle.qdimacs.specs.Reading.{read_formula}
 use Rattle.trace_items.specs.Derivations.{Derivation}
 use Rattle.qrp.specs.Reading.{read_trace}
 use Rattle.qrp_rules.specs.declared.rules.Rules.{Rules}
-use Rattle.qrp_check.specs.declared.verdict.Verified.{Verified}
+use Rattle.trace_check.specs.declared.verified.Verified.{Verified}
 use Rattle.qrp_check.specs.declared.verdict.Fault.{Fault}
-use Rattle.qrp_check.specs.Proof.{side_of}
-use Rattle.qrp_check.specs.Verdict.{is_sat, IsVerdict, IsOutOfMemory, IsFormulaDevice, IsTraceDevice, StandsOnLine}
+use Rattle.trace_check.specs.Proof.{side_of, is_sat}
+use Rattle.qrp_check.specs.Verdict.{IsVerdict, IsOutOfMemory, IsFormulaDevice, IsTraceDevice, StandsOnLine}
 use Rattle.qrp_check.specs.Headline.{Spell, IsShown}
 use Rattle.qrp_bytes.specs.declared.verdict.QrpVerdict.{QrpVerdict}
 use Rattle.qrp_bytes.specs.Encoding.{IsEncoded}

@@ -3,7 +3,7 @@
 ghost use Rattle.std.specs.Prelude.{◌≡◌, [], Some, IfOk, IfErr, Ok, Err, Result};
 ghost use Rattle.aiger.specs.Formats.{circuit_text};
 ghost use Rattle.qrp_check.specs.Checked.{IsChecked};
-ghost use Rattle.qrp_check.specs.declared.verdict.Verified.{Verified};
+ghost use Rattle.trace_check.specs.declared.verified.Verified.{Verified};
 ghost use Rattle.qrp_winner.specs.Strategies.{Follows, HasReason, IsOfWinner};
 ghost use Rattle.qrp_winner.specs.declared.fault.StrategyFault.{StrategyFault};
 ghost use Rattle.qrp_winner.specs.declared.strategy.Strategy.{Strategy};

@@ -2,7 +2,7 @@
 
 ghost use Rattle.std.specs.Prelude.{◌≡◌, Bool, Result, Some, IfSome};
 ghost use Rattle.qrp_check.specs.declared.verdict.Fault.{Fault};
-ghost use Rattle.qrp_check.specs.declared.verdict.Verified.{Verified};
+ghost use Rattle.trace_check.specs.declared.verified.Verified.{Verified};
 ghost use Rattle.qrp_check.specs.Checked.{truth_of};
 ghost use Rattle.qrp_report.specs.declared.refusal.Refusal.{Refusal};
 ghost use Rattle.qrp_report.specs.OfFaults.{NamesVariable, IsOfFault};

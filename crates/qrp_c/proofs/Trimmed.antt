@@ -6,10 +6,10 @@ use Rattle.qbf_text.specs.Pieces.{Kept}
 use Rattle.qrp.specs.Grammar.{text}
 use Rattle.trace_items.specs.Inferences.{Inference}
 use Rattle.qrp_rules.specs.declared.rules.Rules.{Rules}
-use Rattle.qrp_check.specs.Proof.{IsFirstFault}
-use Rattle.qrp_check.specs.Trim.{trimmed_trace}
-use Rattle.qrp_check.specs.declared.fault.CheckFault.{CheckFault}
-use Rattle.qrp_check.specs.declared.fault.CheckFault.TheVariants.{C5}
+use Rattle.trace_check.specs.Proof.{IsFirstFault}
+use Rattle.trace_check.specs.Trim.{trimmed_trace}
+use Rattle.trace_check.specs.declared.fault.CheckFault.{CheckFault}
+use Rattle.trace_check.specs.declared.fault.CheckFault.TheVariants.{C5}
 use Rattle.qrp_check.specs.declared.verdict.Fault.TheVariants.{Check}
 use Rattle.qrp_bytes.specs.Buffers.{IsWritten}
 use Rattle.qrp_bytes.specs.Encoding.{encoded_fault, encoded_truth}

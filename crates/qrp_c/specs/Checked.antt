@@ -6,12 +6,12 @@ use Rattle.trace_items.specs.Derivations.{steps_at}
 use Rattle.qrp.specs.Grammar.{text}
 use Rattle.trace_items.specs.Inferences.{Inference, numbers}
 use Rattle.qrp_rules.specs.declared.rules.Rules.{Rules}
-use Rattle.qrp_check.specs.declared.fault.CheckFault.{CheckFault}
-use Rattle.qrp_check.specs.declared.fault.CheckFault.TheVariants.{C5}
+use Rattle.trace_check.specs.declared.fault.CheckFault.{CheckFault}
+use Rattle.trace_check.specs.declared.fault.CheckFault.TheVariants.{C5}
 use Rattle.qrp_check.specs.declared.verdict.Fault.TheVariants.{Check}
 use Rattle.core_walk.specs.Core.{ListsCore}
-use Rattle.qrp_check.specs.Proof.{Proves, IsFirstFault}
-use Rattle.qrp_check.specs.Trim.{trimmed_trace}
+use Rattle.trace_check.specs.Proof.{Proves, IsFirstFault}
+use Rattle.trace_check.specs.Trim.{trimmed_trace}
 use Rattle.qrp_bytes.specs.Buffers.{IsListed, IsWritten}
 use Rattle.qrp_bytes.specs.declared.verdict.QrpVerdict.{QrpVerdict}
 use Rattle.qrp_bytes.specs.Encoding.{encoded_truth, encoded_fault}

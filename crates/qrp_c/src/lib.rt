@@ -22,7 +22,7 @@ mod proof;
 mod texts;
 
 ghost use Rattle.std.specs.Prelude.{◌≡◌, ◌≢◌, ◌≤◌, ◌+◌, [], pos, drop, Result};
-ghost use Rattle.qrp_check.specs.declared.verdict.Verified.{Verified};
+ghost use Rattle.trace_check.specs.declared.verified.Verified.{Verified};
 ghost use Rattle.qrp_check.specs.declared.verdict.Fault.{Fault};
 ghost use Rattle.qrp_report.specs.Meanings.{fault_meaning};
 ghost use Rattle.qrp_report.specs.OfFaults.{NamesVariable};

@@ -14,8 +14,8 @@ ghost use Rattle.qbf_core.specs.Truth.{IsTrueFormula};
 ghost use Rattle.trace_items.specs.Derivations.{steps_at};
 ghost use Rattle.trace_items.specs.Inferences.{numbers};
 ghost use Rattle.core_walk.specs.Core.{ListsCore};
-ghost use Rattle.qrp_check.specs.Proof.{IsFirstFault};
-ghost use Rattle.qrp_check.specs.declared.fault.CheckFault.TheVariants.{C5};
+ghost use Rattle.trace_check.specs.Proof.{IsFirstFault};
+ghost use Rattle.trace_check.specs.declared.fault.CheckFault.TheVariants.{C5};
 ghost use Rattle.qbf_core.specs.WrittenLiterals.{literal_of};
 
 use qbf_core::Quantifier;

@@ -1,7 +1,8 @@
 -- From the verdict on what was read to the headline over the bytes.
-use Rattle.qrp_check.proofs.Cited.{common_steps, arith, ◌≡◌, ◌↔◌, ℕ, IsTrue, List, Option, Some, inl, inr, refl, subst, rules, Result}
-use Rattle.qrp_check.proofs.Cited.{Ok, Err, IfSome, Qbf, IsTrueFormula, Derivation, Rules, Verified, Fault, ListsCore, side_of, ResultHolds}
-use Rattle.qrp_check.proofs.Cited.{IsVerdict}
+use Rattle.trace_check.proofs.Cited.{common_steps, arith, ◌≡◌, ◌↔◌, ℕ, IsTrue, List, Option, Some, inl, inr, refl, subst, rules, Result, Ok, Err, IfSome, Qbf, IsTrueFormula, Derivation, Rules, ListsCore, ResultHolds}
+use Rattle.trace_check.specs.declared.verified.Verified.{Verified}
+use Rattle.qrp_check.specs.declared.verdict.Fault.{Fault}
+use Rattle.qrp_check.specs.Verdict.{IsVerdict, IsVerdictUnless}
 use Rattle.qbf_tokens.specs.declared.token.Comments.TheVariants.{Qdimacs, Qrp}
 use Rattle.qbf_tokens.specs.Lined.{without_lines}
 use Rattle.qbf_tokens.specs.Tokens.{tokens}
@@ -12,11 +13,10 @@ use Rattle.qdimacs.specs.Reading.{read_formula}
 use Rattle.qrp.specs.declared.fault.TraceFault.{TraceFault}
 use Rattle.qrp.specs.Grammar.{IsTrace}
 use Rattle.qrp.specs.Reading.{read_trace}
-use Rattle.qrp_check.specs.Proof.{IsProof}
-use Rattle.qrp_check.specs.Verdict.{is_sat, IsVerdictUnless}
+use Rattle.trace_check.specs.Proof.{IsProof, is_sat, side_of}
 use Rattle.qrp_check.specs.Headline.{Spell, IsShown, Headline}
-use Rattle.qrp_check.proofs.Soundness.{soundness}
-use Rattle.qrp_check.proofs.Verdicts.{verdict_is_one}
+use Rattle.trace_check.proofs.Soundness.{soundness}
+use Rattle.trace_check.proofs.Verdicts.{verdict_is_one}
 use Rattle.qdimacs.specs.Faults as formulas
 use Rattle.qdimacs.proofs.ReadIsSpelled as formulas_sound
 use Rattle.qdimacs.proofs.SpelledIsRead as formulas_complete

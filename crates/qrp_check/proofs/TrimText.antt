@@ -1,18 +1,16 @@
 -- A trimmed trace is well formed, and so its text reads as it.
-use Rattle.qrp_check.proofs.Cited.{◌≡◌, ℕ, zero, suc, ◌<◌, ◌≤◌, List, [], ◌∷◌, inl, inr, refl, length, Some, arith, nat_eq, rules}
-use Rattle.qrp_check.proofs.Cited.{slice_get, slice_get_cases, slice_get_within, ◌∈◌, Inference, numbers, Derivation, steps_at}
-use Rattle.qrp_check.proofs.Cited.{HasOwnNumbers, own_numbers, ListsCore}
+use Rattle.trace_check.proofs.Cited.{◌≡◌, ℕ, zero, suc, ◌<◌, ◌≤◌, List, [], ◌∷◌, inl, inr, refl, length, Some, arith, nat_eq, rules, slice_get, slice_get_cases, slice_get_within, ◌∈◌, Inference, numbers, Derivation, steps_at, HasOwnNumbers, own_numbers, ListsCore}
 use Rattle.std.proofs.Common.{◌^◌}
 use Rattle.std.specs.List.{IsDistinct}
 use Rattle.trace_items.specs.Derivations.{IsWellFormed}
 use Rattle.qrp.proofs.ReadingLaws.{text_is_read}
 use Rattle.qrp_check.specs.Laws.{TrimmedTextProves}
-use Rattle.qrp_check.specs.Trim.{trimmed_trace}
+use Rattle.trace_check.specs.Trim.{trimmed_trace}
 use Rattle.core_walk.proofs.Marking.{core_within}
 use Rattle.qrp.proofs.WrittenParts.{length_at}
-use Rattle.qrp_check.proofs.StepsAt.{core_inside, each_at, numbers_at, others_at}
-use Rattle.qrp_check.proofs.TrimKeeps.{trimming_keeps}
-use Rattle.qrp_check.proofs.TrimAgain.{trimmed_is_fixed}
+use Rattle.trace_check.proofs.StepsAt.{core_inside, each_at, numbers_at, others_at}
+use Rattle.trace_check.proofs.TrimKeeps.{trimming_keeps}
+use Rattle.trace_check.proofs.TrimAgain.{trimmed_is_fixed}
 use Rattle.qbf_core.proofs.Members.{in_got}
 
 -- places that rise: a later one is greater

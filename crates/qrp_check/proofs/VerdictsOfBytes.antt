@@ -1,6 +1,10 @@
 -- From the check of what was read to the verdict on its bytes.
-use Rattle.qrp_check.proofs.Cited.{rules, common_steps, ◌≡◌, ◌≢◌, arith, Result, Ok, Err, IfSome, Qbf, Derivation, Rules}
-use Rattle.qrp_check.proofs.Cited.{Fault, CheckFault, C5, Verified, IsFirstFault}
+use Rattle.trace_check.proofs.Cited.{rules, common_steps, ◌≡◌, ◌≢◌, arith, Result, Ok, Err, IfSome, Qbf, Derivation, Rules}
+use Rattle.trace_check.specs.declared.fault.CheckFault.{CheckFault}
+use Rattle.trace_check.specs.declared.fault.CheckFault.TheVariants.{C5}
+use Rattle.trace_check.specs.declared.verified.Verified.{Verified}
+use Rattle.trace_check.specs.Proof.{IsFirstFault}
+use Rattle.qrp_check.specs.declared.verdict.Fault.{Fault}
 use Rattle.qrp_check.specs.Checked.{SourceCall, IsCheckedOf, verdict_of}
 use Rattle.qrp.specs.Returns as traces
 use Rattle.qrp_check.specs.declared.verdict.Fault.TheVariants as fault

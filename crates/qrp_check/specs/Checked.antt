@@ -7,7 +7,7 @@ use Rattle.qbf_text.specs.Stopping.{IfKnown}
 use Rattle.qrp.specs.Returns.{reads_bytes}
 use Rattle.trace_items.specs.Derivations.{Derivation, IsWellFormed}
 use Rattle.qrp_rules.specs.declared.rules.Rules.{Rules}
-use Rattle.qrp_check.specs.declared.verdict.Verified.{Verified}
+use Rattle.trace_check.specs.declared.verified.Verified.{Verified}
 use Rattle.qrp_check.specs.declared.verdict.Fault.{Fault}
 use Rattle.qrp_check.specs.Verdict.{IsVerdictOf, IsVerdictUnless, IsFormulaDevice, IsTraceDevice, IsFormulaFault, StandsOnLine}
 use Rattle.qrp_check.specs.Verdict.{WasRead, StopsAfterTrace}

@@ -12,10 +12,10 @@ use Rattle.qdimacs.specs.Grammar.{IsFormula}
 use Rattle.trace_items.specs.Derivations.{Derivation}
 use Rattle.qrp.specs.Grammar.{IsTrace}
 use Rattle.qrp_rules.specs.declared.rules.Rules.{Rules}
-use Rattle.qrp_check.specs.declared.verdict.Verified.{Verified}
+use Rattle.trace_check.specs.declared.verified.Verified.{Verified}
 use Rattle.qrp_check.specs.declared.verdict.Fault.{Fault}
-use Rattle.qrp_check.specs.Proof.{side_of, IsProof}
-use Rattle.qrp_check.specs.Verdict.{is_sat, IsOutOfMemory, IsFormulaDevice, IsTraceDevice}
+use Rattle.trace_check.specs.Proof.{side_of, IsProof, is_sat}
+use Rattle.qrp_check.specs.Verdict.{IsOutOfMemory, IsFormulaDevice, IsTraceDevice}
 
 -- the bytes spell f, a closed prenex formula, and the trace d
 pub record Spell (formula trace : List ℕ) (f : Qbf) (d : Derivation) : Type 0 where

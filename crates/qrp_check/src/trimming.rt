@@ -5,13 +5,13 @@ ghost use Rattle.std.specs.List.{AllByRecursion};
 ghost use Rattle.std.specs.List.Sorted.{IsStrictlyIncreasing};
 ghost use Rattle.trace_items.specs.Derivations.{IsWellFormed, steps_at};
 ghost use Rattle.trace_items.specs.Inferences.{IsAt};
-ghost use Rattle.qrp_check.specs.Trim.{trimmed_trace};
+ghost use Rattle.trace_check.specs.Trim.{trimmed_trace};
 
-use crate::verdict::Verified;
 use qbf_core::Lit;
 use qrp::{Header, QuantSet, Steps, Trace};
 use std::alloc::{AllocError, Global};
 use std::marker::Model;
+use trace_check::Verified;
 
 /// Another set with the same variables.
 fn copy_set(alloc: Global, set: &QuantSet) -> Result<QuantSet, AllocError>
@@ -66,7 +66,7 @@ fn push_sets(alloc: Global, trace: &mut Trace, sets: &[QuantSet]) -> Result<(), 
 }
 
 /// Adds copies of the steps at some positions of a trace to another that has none.
-#[tactic(auto, using(crate::proofs::StepsAt::fresh_at, crate::proofs::StepsAt::next_at, trace_items::proofs::Positions::own_numbers, qbf_core::proofs::DistinctNumbers::all_at))]
+#[tactic(auto, using(trace_check::proofs::StepsAt::fresh_at, trace_check::proofs::StepsAt::next_at, trace_items::proofs::Positions::own_numbers, qbf_core::proofs::DistinctNumbers::all_at))]
 fn push_steps(shorter: &mut Trace, trace: &Trace, positions: &[usize]) -> Result<(), AllocError>
     requires sound { IsWellFormed trace.now }
     requires empty { shorter.old.steps ≡ [] }

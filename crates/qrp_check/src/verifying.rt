@@ -6,12 +6,11 @@ ghost use Rattle.core_walk.specs.Core.{ListsCore};
 ghost use Rattle.qrp_check.specs.Checked.{IsChecked, IsCheckedOf, IsOfSource, IsTruthOf};
 ghost use Rattle.qrp_check.specs.Checked.{StopsOnceRead, call_of, verdict_of};
 ghost use Rattle.qrp_check.specs.Headline.{Headline};
-ghost use Rattle.qrp_check.specs.Proof.{Proves};
-ghost use Rattle.qrp_check.specs.Verdict.{IsVerdictUnless, IsFormulaDevice, IsTraceDevice, is_sat};
+ghost use Rattle.trace_check.specs.Proof.{Proves, is_sat};
+ghost use Rattle.qrp_check.specs.Verdict.{IsVerdictUnless, IsFormulaDevice, IsTraceDevice};
 ghost use Rattle.qrp_check.specs.Verdict.{IsFormulaFault, StandsOnLine, WasRead, StopsAfterTrace};
 
-use crate::checking::{check_kept, check_marked, is_sat};
-use crate::verdict::{Fault, Verified};
+use crate::verdict::Fault;
 use core_walk::Context;
 use qbf_core::Formula;
 use qbf_text::Source;
@@ -19,6 +18,7 @@ use qdimacs::read_formula;
 use qrp::{CompactTrace, read_compact};
 use qrp_rules::Rules;
 use std::alloc::Global;
+use trace_check::{Verified, check_kept, check_marked, is_sat};
 
 /// The trace that was read, and the result of its check on a formula that was read.
 ///

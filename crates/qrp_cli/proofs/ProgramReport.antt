@@ -5,11 +5,11 @@ use Rattle.std.proofs.lemmas.Grind.{common_steps}
 use Rattle.qrp_cli.specs.declared.job.Job.{Job}
 use Rattle.qrp_cli.specs.declared.job.Job.TheVariants as job
 use Rattle.qrp_rules.specs.declared.rules.Rules.{Rules}
-use Rattle.qrp_check.specs.declared.verdict.Verified.{Verified}
+use Rattle.trace_check.specs.declared.verified.Verified.{Verified}
 use Rattle.qrp_check.specs.declared.verdict.Fault.{Fault}
 use Rattle.std.specs.Io.KnownBytes.{Appends}
 use Rattle.qbf_text.specs.declared.sink.Sink as sinks
-use Rattle.qrp_check.specs.declared.fault.CheckFault.TheVariants.{C1, C2, C3, C4, C5, C6}
+use Rattle.trace_check.specs.declared.fault.CheckFault.TheVariants.{C1, C2, C3, C4, C5, C6}
 use Rattle.qrp_check.specs.Headline.{Headline}
 use Rattle.qrp_report.specs.Lines.{fault_line, verdict_line}
 use Rattle.qrp_report.specs.Refusals.{fault_status, formula_number, trace_number}

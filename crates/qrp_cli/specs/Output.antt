@@ -8,14 +8,14 @@ use Rattle.qdimacs.specs.Grammar.{text}
 use Rattle.qrp_cli.specs.declared.job.Job.{Job}
 use Rattle.qrp_cli.specs.declared.job.Job.TheVariants as job
 use Rattle.qrp_rules.specs.declared.rules.Rules.{Rules}
-use Rattle.qrp_check.specs.declared.verdict.Verified.{Verified}
+use Rattle.trace_check.specs.declared.verified.Verified.{Verified}
 use Rattle.qrp_check.specs.declared.verdict.Fault.{Fault}
 use Rattle.qrp_check.specs.declared.verdict.Fault.TheVariants as fault
 use Rattle.trace_items.specs.Derivations.{Derivation}
 use Rattle.qrp.specs.Grammar as trace
 use Rattle.qrp_check.specs.Checked.{SourceCall, IsChecked, StopsOnceRead}
 use Rattle.qrp_check.specs.Headline.{Headline}
-use Rattle.qrp_check.specs.Trim.{trimmed_trace}
+use Rattle.trace_check.specs.Trim.{trimmed_trace}
 use Rattle.qrp_program.specs.Output.{Report, refusal, success}
 use Rattle.qrp_program.specs.declared.stream.Stream.{Stream}
 use Rattle.qrp_program.specs.declared.stream.Stream.TheVariants.{Out, Errors}

@@ -1,10 +1,9 @@
 -- The conditions of a rule hold, if a set follows by it as the literature has it.
-use Rattle.qrp_check.proofs.Cited.{ℕ, List, [], sym, ◌∙◌, subst, inl, inr, Literal, ◌∈◌, ◌⊆◌, IsInitial, Side, Clauses, Cubes}
-use Rattle.qrp_check.proofs.Cited.{resolvent, Qbf, Rules, Inference, AllHold}
+use Rattle.trace_check.proofs.Cited.{ℕ, List, [], sym, ◌∙◌, subst, inl, inr, Literal, ◌∈◌, ◌⊆◌, IsInitial, Side, Clauses, Cubes, resolvent, Qbf, Rules, Inference, AllHold}
 use Rattle.qbf_core.specs.Blocks.{Binds}
 use Rattle.qbf_core.specs.Rules.{IsOnlyClash, deciding_quantifier}
 use Rattle.qrp_rules.specs.Unreduced.{unreduced_conditions}
-use Rattle.qrp_check.specs.Unreduced.{unreduced_antecedents}
+use Rattle.trace_check.specs.Unreduced.{unreduced_antecedents}
 
 pub initial_holds : (by : Rules) (side : Side) (f : Qbf) (before : List Inference) (lits : List Literal) → IsInitial side f lits
     → AllHold (unreduced_antecedents by side f before [] lits)

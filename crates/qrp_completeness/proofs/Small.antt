@@ -1,5 +1,5 @@
 -- Formulas with few variables have short derivations.
-use Rattle.qrp_check.proofs.Cited.{◌≡◌, ℕ, zero, suc, ◌+◌, ◌≤◌, ◌⊎◌, List, [], ◌∷◌, inl, inr, refl, length, arith, pairs, Qbf, Side}
+use Rattle.trace_check.proofs.Cited.{◌≡◌, ℕ, zero, suc, ◌+◌, ◌≤◌, ◌⊎◌, List, [], ◌∷◌, inl, inr, refl, length, arith, pairs, Qbf, Side}
 use Rattle.std.proofs.Common.{◌^◌, ◌*◌, cond, pow_mono, pow-suc, pow-add, mul-le-mul}
 use Rattle.std.proofs.lemmas.List.{length-map}
 use Rattle.qbf_core.proofs.PrefixLaws.{variables_few}

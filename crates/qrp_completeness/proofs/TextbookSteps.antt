@@ -1,8 +1,7 @@
 -- Steps as the literature has them are steps here.
-use Rattle.qrp_check.proofs.Cited.{◌≡◌, ◌≤◌, ℕ, List, [], ◌∷◌, ◌++◌, inl, inr, sym, ap, ◌∙◌, subst, take, arith, cases_eq, refl}
-use Rattle.qrp_check.proofs.Cited.{Literal, ◌∈◌, ◌⊆◌, IsClean, Side, Clauses, Cubes, IsReduct, IsInitial, Clashes, resolvent, pairs, SetsAgree}
-use Rattle.qrp_check.proofs.Cited.{Qbf, IsClosed, in_append, append_left, append_right, Rules, Inference, IsAt, IsInCore, next, Outcome, side_of}
-use Rattle.qrp_check.proofs.Cited.{lits_of, AllHold, at_place}
+use Rattle.trace_check.proofs.Cited.{◌≡◌, ◌≤◌, ℕ, List, [], ◌∷◌, ◌++◌, inl, inr, sym, ap, ◌∙◌, subst, take, arith, cases_eq, refl, Literal, ◌∈◌, ◌⊆◌, IsClean, Side, Clauses, Cubes, IsReduct, IsInitial, Clashes, resolvent, pairs, Qbf, IsClosed, in_append, append_left, append_right, Rules, Inference, IsAt, IsInCore, next, Outcome, lits_of, AllHold, at_place}
+use Rattle.trace_check.specs.Sets.{SetsAgree}
+use Rattle.trace_check.specs.Proof.{side_of}
 use Rattle.qbf_core.specs.declared.quantifier.Quantifier.{Quantifier}
 use Rattle.qbf_core.specs.Blocks.{IsBefore, variables}
 use Rattle.qbf_core.specs.Literal.{positive, negative, negated}
@@ -12,10 +11,10 @@ use Rattle.qbf_core.proofs.Inferences.{in_without, from_without}
 use Rattle.qbf_core.proofs.Leaves.{pairs_ascend}
 use Rattle.qbf_core.proofs.Members.{only_literal, same_or_not}
 use Rattle.qbf_core.proofs.Reduction.{Ascending}
-use Rattle.qrp_check.specs.Unreduced.{FollowsUnreduced, ProvesUnreduced, unreduced_antecedents}
+use Rattle.trace_check.specs.Unreduced.{FollowsUnreduced, ProvesUnreduced, unreduced_antecedents}
 use Rattle.core_walk.proofs.Marking.{core_within}
 use Rattle.core_walk.proofs.NamedSteps.{need_of}
-use Rattle.qrp_check.proofs.WiderRules.{reduced_parents_keep}
+use Rattle.trace_check.proofs.WiderRules.{reduced_parents_keep}
 use Rattle.qbf_completeness.proofs.Deriving.{var_of, clash_at}
 use Rattle.qbf_completeness.proofs.SameBlock.{stands_before}
 use Rattle.qrp_completeness.specs.Textbook.{StandsAfter, IsAxiom, IsReduction, IsResolution, IsTextbookStep, IsTextbookProof, TextbookProofsAreProofs}

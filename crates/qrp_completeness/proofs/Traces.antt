@@ -1,7 +1,6 @@
 -- From a derivation of the empty set to a trace, its text, and its verdict.
-use Rattle.qrp_check.proofs.Cited.{◌≡◌, ℕ, ◌+◌, ◌<◌, ◌≤◌, List, [], ◌∷◌, ◌++◌, inl, inr, refl, sym, subst, length, arith, Ok, Result}
-use Rattle.qrp_check.proofs.Cited.{AllByRecursion, Literal, ◌∈◌, AreBound, bound_each, pairs, Qbf, IsClosed, Rules, Inference, IsGoal}
-use Rattle.qrp_check.proofs.Cited.{Derivation, Outcome, side_of, Proves, at_place, slice_get_within}
+use Rattle.trace_check.proofs.Cited.{◌≡◌, ℕ, ◌+◌, ◌<◌, ◌≤◌, List, [], ◌∷◌, ◌++◌, inl, inr, refl, sym, subst, length, arith, Ok, Result, AllByRecursion, Literal, ◌∈◌, AreBound, bound_each, pairs, Qbf, IsClosed, Rules, Inference, IsGoal, Derivation, Outcome, at_place, slice_get_within}
+use Rattle.trace_check.specs.Proof.{side_of, Proves}
 use Rattle.std.proofs.Common.{◌^◌, length-append}
 use Rattle.qbf_core.specs.Blocks.{IsVariable, variables}
 use Rattle.qbf_core.specs.Qbf.{IsWellFormed as IsWellFormedFormula}
@@ -19,16 +18,16 @@ use Rattle.qrp.specs.Grammar.{text}
 use Rattle.qrp.proofs.ReadingLaws.{text_is_read}
 use Rattle.qrp_check.specs.Headline.{IsShown, Headline}
 use Rattle.qrp_check.proofs.HeadlineOfVerdict.{formula_spelled, trace_spelled}
-use Rattle.qrp_check.specs.Unreduced.{ProvesUnreduced}
+use Rattle.trace_check.specs.Unreduced.{ProvesUnreduced}
 use Rattle.qrp_check.specs.Verdict.{IsOutOfMemory, IsFormulaDevice, IsTraceDevice}
-use Rattle.qrp_check.specs.declared.verdict.Verified.{Verified}
+use Rattle.trace_check.specs.declared.verified.Verified.{Verified}
 use Rattle.qrp_check.specs.declared.verdict.Fault.{Fault}
 use Rattle.std.specs.Prelude.{IsOk, ◌⊎◌}
-use Rattle.qrp_check.proofs.CheckAnswers.{closed_of}
+use Rattle.trace_check.proofs.CheckAnswers.{closed_of}
 use Rattle.core_walk.proofs.Marking.{core_within}
-use Rattle.qrp_check.proofs.StepsAt.{holds_number}
-use Rattle.qrp_check.proofs.Soundness.{soundness}
-use Rattle.qrp_check.proofs.WiderRules.{reduced_parents_keep}
+use Rattle.trace_check.proofs.StepsAt.{holds_number}
+use Rattle.trace_check.proofs.Soundness.{soundness}
+use Rattle.trace_check.proofs.WiderRules.{reduced_parents_keep}
 use Rattle.qbf_completeness.specs.Laws.{step_limit}
 use Rattle.qbf_completeness.proofs.Deriving.{completeness}
 use Rattle.qrp_completeness.specs.Laws.{EachResultHasAProof, ResultsAreProofs, HasTrace, SmallResultsHaveTraces, SmallFormulasAreVerified}

@@ -1,7 +1,5 @@
 -- A set that the rules derive is written as steps, one after the other, numbered from 1.
-use Rattle.qrp_check.proofs.Cited.{◌≡◌, ℕ, suc, ◌+◌, ◌<◌, ◌≤◌, List, [], ◌∷◌, ◌++◌, inl, inr, refl, sym, ap, ◌∙◌, subst, length, false}
-use Rattle.qrp_check.proofs.Cited.{arith, nat_eq, Literal, ◌∈◌, IsClean, Side, resolvent, AreBound, Qbf, Rules, AllHold, Inference, IsAt}
-use Rattle.qrp_check.proofs.Cited.{numbers, IsNumberOf, lits_of, in_push, push_in, append_left}
+use Rattle.trace_check.proofs.Cited.{◌≡◌, ℕ, suc, ◌+◌, ◌<◌, ◌≤◌, List, [], ◌∷◌, ◌++◌, inl, inr, refl, sym, ap, ◌∙◌, subst, length, false, arith, nat_eq, Literal, ◌∈◌, IsClean, Side, resolvent, AreBound, Qbf, Rules, AllHold, Inference, IsAt, numbers, IsNumberOf, lits_of, in_push, push_in, append_left}
 use Rattle.std.proofs.Common.{length-append, eq-eqb, ne_eqb, ◌||◌}
 use Rattle.std.proofs.lemmas.Bool.Decides.{eqb_tells}
 use Rattle.std.proofs.lemmas.List.{map-append}
@@ -11,8 +9,8 @@ use Rattle.qbf_core.proofs.DistinctNumbers.{push_distinct}
 use Rattle.qbf_core.proofs.Inferences.{resolvent_clean, resolvent_bound}
 use Rattle.qbf_core.proofs.Order.{clean_within}
 use Rattle.qbf_core.proofs.PushedItems.{pushed_old}
-use Rattle.qrp_check.proofs.SetsAgree.{push_at}
-use Rattle.qrp_check.specs.Unreduced.{FollowsUnreduced, unreduced_antecedents}
+use Rattle.trace_check.proofs.SetsAgree.{push_at}
+use Rattle.trace_check.specs.Unreduced.{FollowsUnreduced, unreduced_antecedents}
 use Rattle.qbf_completeness.specs.Derivations.{IsDerived, initial, reduced, resolved}
 use Rattle.qrp_completeness.proofs.RulesHold.{initial_holds, resolvent_holds}
 

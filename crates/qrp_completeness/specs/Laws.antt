@@ -11,11 +11,11 @@ use Rattle.trace_items.specs.Derivations.{Derivation, AreGrammatical, IsWellForm
 use Rattle.qrp.specs.Grammar.{text}
 use Rattle.qrp.specs.Reading.{read_trace}
 use Rattle.qrp_rules.specs.declared.rules.Rules.{Rules}
-use Rattle.qrp_check.specs.declared.verdict.Verified.{Verified}
+use Rattle.trace_check.specs.declared.verified.Verified.{Verified}
 use Rattle.qrp_check.specs.declared.verdict.Fault.{Fault}
 use Rattle.qrp_check.specs.Headline.{IsShown, Headline}
-use Rattle.qrp_check.specs.Proof.{side_of, Proves, IsProof}
-use Rattle.qrp_check.specs.Unreduced.{ProvesUnreduced}
+use Rattle.trace_check.specs.Proof.{side_of, Proves, IsProof}
+use Rattle.trace_check.specs.Unreduced.{ProvesUnreduced}
 use Rattle.qrp_check.specs.Verdict.{IsOutOfMemory, IsFormulaDevice, IsTraceDevice}
 use Rattle.qbf_completeness.specs.Laws.{count_of, step_limit}
 

@@ -13,8 +13,8 @@ use Rattle.trace_items.specs.Inferences.{Inference, IsAt}
 use Rattle.qrp_rules.specs.declared.rules.Rules.{Rules}
 use Rattle.core_walk.specs.Conditions.{IsNumberOf, lits_of}
 use Rattle.core_walk.specs.Core.{IsGoal, IsInCore}
-use Rattle.qrp_check.specs.Proof.{side_of, Proves}
-use Rattle.qrp_check.specs.Unreduced.{ProvesUnreduced}
+use Rattle.trace_check.specs.Proof.{side_of, Proves}
+use Rattle.trace_check.specs.Unreduced.{ProvesUnreduced}
 
 -- v stands after w in the prefix
 abbrev pub StandsAfter : List (Quantifier × ℕ) → ℕ → ℕ → Type 0

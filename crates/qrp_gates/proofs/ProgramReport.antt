@@ -11,7 +11,7 @@ use Rattle.qcir.specs.declared.fault.QuestionFault.{QuestionFault}
 use Rattle.qcir.proofs.Spelled.{reads_questions}
 use Rattle.qdimacs.specs.Grammar.{text}
 use Rattle.qrp_check.specs.Checked.{SourceCall}
-use Rattle.qrp_check.specs.declared.fault.CheckFault.TheVariants.{C5}
+use Rattle.trace_check.specs.declared.fault.CheckFault.TheVariants.{C5}
 use Rattle.qrp_check.specs.declared.verdict.Fault.TheVariants as proof
 use Rattle.qrp_rules.specs.declared.rules.Rules.{Rules}
 use Rattle.qrp_program.specs.Output.{IsOn, IsReported, IsReportedTo}

@@ -9,7 +9,7 @@ use Rattle.qcir.specs.Grammar.{IsQuestion}
 use Rattle.qcir.specs.Reading.{Question}
 use Rattle.qdimacs.specs.Grammar.{text}
 use Rattle.qrp_check.specs.Checked.{SourceCall}
-use Rattle.qrp_check.specs.declared.fault.CheckFault.TheVariants.{C5}
+use Rattle.trace_check.specs.declared.fault.CheckFault.TheVariants.{C5}
 use Rattle.qrp_check.specs.declared.verdict.Fault.TheVariants as proof
 use Rattle.qrp_rules.specs.declared.rules.Rules.{Rules}
 use Rattle.qrp_program.specs.Output.{Report, success}

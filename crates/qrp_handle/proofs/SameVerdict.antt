@@ -13,9 +13,9 @@ use Rattle.qrp_rules.specs.declared.fault.RuleFault.TheVariants.{S1, S2, S3}
 use Rattle.qrp_rules.specs.declared.rules.Rules.{Rules}
 use Rattle.core_walk.specs.Conditions.{IsNumberOf, StepFollows, antecedent_conditions, step_conditions}
 use Rattle.core_walk.specs.Faulty.{IsFirstFaultyStep}
-use Rattle.qrp_check.specs.Proof.{IsFirstFault, Proves, side_of}
-use Rattle.qrp_check.specs.declared.fault.CheckFault.{CheckFault}
-use Rattle.qrp_check.specs.declared.fault.CheckFault.TheVariants.{C1, C2, C3, C4, C5, C6}
+use Rattle.trace_check.specs.Proof.{IsFirstFault, Proves, side_of}
+use Rattle.trace_check.specs.declared.fault.CheckFault.{CheckFault}
+use Rattle.trace_check.specs.declared.fault.CheckFault.TheVariants.{C1, C2, C3, C4, C5, C6}
 use Rattle.qrp_handle.specs.Alike.{FailsAlike, ProvesAlike}
 use Rattle.qrp_handle.specs.Texts.{greatest}
 

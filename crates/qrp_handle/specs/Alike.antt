@@ -4,8 +4,8 @@ use Rattle.qbf_core.specs.Qbf.{Qbf}
 use Rattle.trace_items.specs.Inferences.{Inference}
 use Rattle.trace_items.specs.declared.item.Outcome.{Outcome}
 use Rattle.qrp_rules.specs.declared.rules.Rules.{Rules}
-use Rattle.qrp_check.specs.declared.fault.CheckFault.{CheckFault}
-use Rattle.qrp_check.specs.Proof.{IsFirstFault, IsProof, Proves}
+use Rattle.trace_check.specs.declared.fault.CheckFault.{CheckFault}
+use Rattle.trace_check.specs.Proof.{IsFirstFault, IsProof, Proves}
 use Rattle.qrp_handle.specs.Texts.{formula_written, trace_written}
 
 -- the trace that is written is a proof exactly if the steps prove the result

@@ -3,7 +3,7 @@ use Rattle.std.specs.Prelude.{Bool, true, false, List, [], ℕ, ◌<◌, length}
 use Rattle.std.specs.List.{AllByRecursion}
 use Rattle.trace_items.specs.Inferences.{Inference}
 use Rattle.core_walk.specs.Core.{ListsCore}
-use Rattle.qrp_check.specs.Proof.{Proves}
+use Rattle.trace_check.specs.Proof.{Proves}
 use Rattle.qrp_rules.specs.declared.rules.Rules.{Rules}
 use Rattle.qbf_core.specs.declared.quantifier.Quantifier.{Quantifier}
 use Rattle.qbf_core.specs.declared.quantifier.Quantifier.TheVariants.{All, Exists}

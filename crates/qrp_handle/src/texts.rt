@@ -8,7 +8,7 @@ ghost use Rattle.qdimacs.specs.Grammar as formulas;
 ghost use Rattle.qdimacs.specs.Reading.{read_formula};
 ghost use Rattle.qrp.specs.Grammar as traces;
 ghost use Rattle.qrp.specs.Reading.{read_trace};
-ghost use Rattle.qrp_check.specs.Trim.{trimmed_trace};
+ghost use Rattle.trace_check.specs.Trim.{trimmed_trace};
 ghost use Rattle.qrp_handle.specs.Texts.{greatest, formula_written, trace_written};
 
 use crate::proof::Proof;

@@ -9,11 +9,11 @@ use Rattle.trace_items.specs.Derivations.{Derivation, IsWellFormed}
 use Rattle.qrp.specs.Reading.{read_trace}
 use Rattle.qrp_rules.specs.declared.rules.Rules.{Rules}
 use Rattle.qrp_check.specs.declared.verdict.Fault.{Fault}
-use Rattle.qrp_check.specs.declared.verdict.Verified.{Verified}
+use Rattle.trace_check.specs.declared.verified.Verified.{Verified}
 use Rattle.qrp_check.specs.Checked.{SourceCall, IsChecked, WasReadFrom, verdict_of}
 use Rattle.core_walk.specs.Core.{ListsCore}
-use Rattle.qrp_check.specs.Proof.{IsProof}
-use Rattle.qrp_check.specs.Trim.{trimmed_trace}
+use Rattle.trace_check.specs.Proof.{IsProof}
+use Rattle.trace_check.specs.Trim.{trimmed_trace}
 use Rattle.qrp_check.specs.Verdict.{IsVerdict, IsVerdictUnless}
 use Rattle.qrp_check.proofs.HeadlineOfVerdict.{found_of}
 use Rattle.qrp_check.proofs.TrimText.{trimmed_text_proves}

@@ -4,7 +4,7 @@ use Rattle.std.specs.Fmt.{digits}
 use Rattle.qdimacs.specs.declared.fault.FormulaFault.TheVariants.{F6}
 use Rattle.qrp.specs.declared.fault.TraceFault.TheVariants.{P1}
 use Rattle.qrp_rules.specs.declared.fault.RuleFault.TheVariants.{S12}
-use Rattle.qrp_check.specs.declared.fault.CheckFault.TheVariants.{C2, C6}
+use Rattle.trace_check.specs.declared.fault.CheckFault.TheVariants.{C2, C6}
 use Rattle.qrp_check.specs.declared.verdict.Fault.TheVariants as fault
 use Rattle.qrp_report.specs.Lines.{fault_line}
 

@@ -1,8 +1,8 @@
 -- Which refusals are those of a fault.
 use Rattle.std.specs.Prelude.{◌≡◌}
 use Rattle.qbf_core.specs.Blocks.{IsVariable}
-use Rattle.qrp_check.specs.declared.fault.CheckFault.{CheckFault}
-use Rattle.qrp_check.specs.declared.fault.CheckFault.TheVariants.{C1, C2, C3}
+use Rattle.trace_check.specs.declared.fault.CheckFault.{CheckFault}
+use Rattle.trace_check.specs.declared.fault.CheckFault.TheVariants.{C1, C2, C3}
 use Rattle.qrp_check.specs.declared.verdict.Fault.{Fault}
 use Rattle.qrp_check.specs.declared.verdict.Fault.TheVariants as fault
 use Rattle.qrp_report.specs.declared.refusal.Refusal.{Refusal}

@@ -11,8 +11,8 @@ use Rattle.qrp_check.specs.declared.verdict.Fault.{Fault}
 use Rattle.qrp_check.specs.Checked.{SourceCall, IsChecked}
 use Rattle.core_walk.specs.Core.{ListsCore}
 use Rattle.qrp_check.specs.Laws.{IsTrimmedProof}
-use Rattle.qrp_check.specs.Proof.{IsProof}
-use Rattle.qrp_check.specs.Trim.{trimmed_trace}
+use Rattle.trace_check.specs.Proof.{IsProof}
+use Rattle.trace_check.specs.Trim.{trimmed_trace}
 
 -- a source or a sink failed in a call: its count of failures rose, if it was below the limit before
 abbrev pub DeviceFailed : ℕ → ℕ → Type 0

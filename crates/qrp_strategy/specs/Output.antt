@@ -5,7 +5,7 @@ use Rattle.aiger.specs.Formats.{circuit_text}
 use Rattle.circuit_cli.specs.Output.{no_circuit}
 use Rattle.qbf_text.specs.declared.sink.Sink.{Ghosts}
 use Rattle.qrp_check.specs.Checked.{SourceCall}
-use Rattle.qrp_check.specs.declared.fault.CheckFault.TheVariants.{C5}
+use Rattle.trace_check.specs.declared.fault.CheckFault.TheVariants.{C5}
 use Rattle.qrp_check.specs.declared.verdict.Fault.TheVariants as fault
 use Rattle.qrp_program.specs.Output.{Report, refusal, success}
 use Rattle.qrp_program.specs.declared.stream.Stream.TheVariants.{Errors}

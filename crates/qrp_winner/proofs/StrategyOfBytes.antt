@@ -1,13 +1,13 @@
 -- From the strategy for a formula that was read to the headline over the bytes.
-use Rattle.qrp_check.proofs.Cited.{◌≡◌, List, Option, Some, None, ℕ, Result, Ok, Err, IfOk, IfSome, Qbf, Derivation}
+use Rattle.trace_check.proofs.Cited.{◌≡◌, List, Option, Some, None, ℕ, Result, Ok, Err, IfOk, IfSome, Qbf, Derivation}
 use Rattle.qbf_strategy.specs.Winning.{IsWinningCircuit}
 use Rattle.qdimacs.specs.Reading as formulas
 use Rattle.qrp_check.proofs.HeadlineOfVerdict.{formula_spelled, trace_spelled}
 use Rattle.qrp_check.specs.Checked.{WasReadFrom}
-use Rattle.qrp_check.specs.Verdict.{is_sat}
+use Rattle.trace_check.specs.Proof.{is_sat}
 use Rattle.qrp_check.specs.declared.verdict.Fault.{Fault}
 use Rattle.std.proofs.Common.{IsErrOf}
-use Rattle.qrp_winner.specs.Sizes.{IsTooLong}
+use Rattle.proof_decisions.specs.Sizes.{IsTooLong}
 use Rattle.qrp_winner.specs.Strategies.{HasReason, HasWinner, winner}
 use Rattle.qrp_winner.specs.declared.fault.StrategyFault.{StrategyFault}
 use Rattle.qrp_winner.specs.declared.fault.StrategyFault.TheVariants.{Check, NoCircuit}

@@ -1,5 +1,1 @@
-pub mod Sizes
-pub mod ProofDecisions
-pub mod Removing
-pub mod Laws
 pub mod Strategies

@@ -9,11 +9,11 @@ use Rattle.qbf_strategy.specs.Winning.{IsWinningCircuit}
 use Rattle.trace_items.specs.Derivations.{Derivation}
 use Rattle.qrp_check.specs.Checked.{SourceCall, IsChecked, IsCheckedOf, StopsOnceRead, WasReadFrom}
 use Rattle.qrp_check.specs.Headline.{Spell}
-use Rattle.qrp_check.specs.Verdict.{is_sat}
+use Rattle.trace_check.specs.Proof.{is_sat}
 use Rattle.qrp_check.specs.declared.verdict.Fault.{Fault}
-use Rattle.qrp_check.specs.declared.verdict.Verified.{Verified}
+use Rattle.trace_check.specs.declared.verified.Verified.{Verified}
 use Rattle.qrp_rules.specs.declared.rules.Rules.{Rules}
-use Rattle.qrp_winner.specs.Sizes.{IsTooLong}
+use Rattle.proof_decisions.specs.Sizes.{IsTooLong}
 use Rattle.qrp_winner.specs.declared.fault.StrategyFault.{StrategyFault}
 use Rattle.qrp_winner.specs.declared.fault.StrategyFault.TheVariants.{Check, NoCircuit, NoMemory}
 use Rattle.qrp_winner.specs.declared.strategy.Strategy.{Strategy}

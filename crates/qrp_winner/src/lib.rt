@@ -7,20 +7,15 @@
 //!   and its circuit wins: in each run the matrix fails for `r unsat` and holds for `r sat`, and no
 //!   output depends on an input that is not in an earlier block. A refusal is that of the check.
 //!   A verified proof has a strategy, if memory and AIGER's numbers suffice.
-//! - Read first: `find_strategy`, `decisions_of`, `circuits_win`.
+//! - Read first: `find_strategy`.
 //! - Tested only: the number of gates.
 //! - Trusted: nothing.
 //! - On the map: find_strategy: a circuit | by which the winner wins.
 #![tactic(auto)]
 
-mod decisions;
 mod fault;
-mod laws;
-mod origins;
-mod removing;
 mod strategy;
 
-pub use decisions::decisions_of;
 pub use fault::StrategyFault;
-pub use laws::{circuits_win, decisions_see_before, decisions_win};
+pub use proof_decisions::{circuits_win, decisions_of, decisions_see_before, decisions_win};
 pub use strategy::{Strategy, find_strategy, strategy_of};

@@ -7,15 +7,15 @@ ghost use Rattle.qbf_core.specs.Rules.{reduced_quantifier};
 ghost use Rattle.qbf_strategy.specs.Winning.{IsWinningCircuit};
 ghost use Rattle.qrp_check.specs.Checked.{call_of};
 ghost use Rattle.core_walk.specs.Core.{ListsCore};
-ghost use Rattle.qrp_check.specs.Proof.{Proves, side_of};
+ghost use Rattle.trace_check.specs.Proof.{Proves, side_of};
 ghost use Rattle.qrp_rules.specs.declared.rules.Rules.{Rules};
-ghost use Rattle.qrp_winner.specs.Sizes.{core_size};
+ghost use Rattle.proof_decisions.specs.Sizes.{core_size};
 ghost use Rattle.qrp_winner.specs.Strategies.{IsOfVerdict, IsOfWinner, IsStrategyOf};
 ghost use Rattle.qrp_winner.specs.declared.fault.StrategyFault.TheVariants.{NoCircuit, NoMemory};
 
-use crate::decisions::decisions_of;
 use crate::fault::StrategyFault;
 use aiger::{Circuit, GateFault};
+use proof_decisions::decisions_of;
 use qbf_core::{Formula, Quantifier};
 use qbf_strategy::circuit_of;
 use qbf_text::Source;

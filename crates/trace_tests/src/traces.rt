@@ -6,7 +6,7 @@ ghost use Rattle.std.specs.List.{AllByRecursion};
 ghost use Rattle.trace_items.specs.Inferences.{IsNumber, numbers};
 ghost use Rattle.step_index.specs.Numbers.{is_used};
 
-use qbf_core::{Lit, Quantifier, Var};
+use qbf_core::{Lit, LitBuffer, Quantifier, Var};
 use qbf_text::{PieceSink, PieceSource, SliceSource, VecSink};
 use qrp::*;
 use std::alloc::Global;
@@ -437,4 +437,45 @@ fn assert_two_written(rt: &impl Abort, alloc: Global, trace: &CompactTrace) -> R
 fn writes_the_steps_at_some_places(rt: HostRuntime) -> Result<(), Fail> {
     let trace = read_compact(rt.alloc(), &mut SliceSource::new(TRACE))?;
     assert_two_written(&rt, rt.alloc(), &trace)
+}
+
+/// Steps whose literals lie at the ends of what one, two and four bytes can hold.
+const WIDE: &[u8] =
+    b"p qrp 2147483647 7\n1 127 -127 0 0\n2 1 128 0 0\n3 -128 0 0\n4 32767 -32767 5 0 0\n\
+    5 -3 32768 0 0\n6 2147483647 -2147483647 1 0 0\n7 0 0\nr unsat\n";
+
+/// The literals of a step are the same if they are unpacked, and if they are read one by one.
+fn assert_same_literals(
+    rt: &impl Abort,
+    trace: &CompactTrace,
+    i: usize,
+    buffer: &mut LitBuffer,
+) -> Result<(), Fail>
+    requires { i < length trace.now.steps }
+{
+    let mut left = trace.lits_left(i);
+    for lit in trace.unpacked(i, buffer)? {
+        assert_eq!(rt; left.next(), Some(*lit));
+    }
+    assert_eq!(rt; left.next(), None);
+    Ok(())
+}
+
+/// All steps are written as they were read, and each gives its literals.
+fn assert_wide(rt: &impl Abort, alloc: Global, trace: &CompactTrace) -> Result<(), Fail> {
+    assert_eq!(rt; trace.len(), 7);
+    let mut sink = VecSink::new(alloc, 0)?;
+    assert!(rt; write_steps_at(trace, &[0, 1, 2, 3, 4, 5, 6], &mut sink).is_ok());
+    assert_eq!(rt; sink.bytes(), WIDE);
+    let mut buffer = LitBuffer::new(alloc);
+    for i in 0..7 {
+        assert_same_literals(rt, trace, i, &mut buffer)?;
+    }
+    Ok(())
+}
+
+#[test]
+fn keeps_literals_of_each_width(rt: HostRuntime) -> Result<(), Fail> {
+    let trace = read_compact(rt.alloc(), &mut SliceSource::new(WIDE))?;
+    assert_wide(&rt, rt.alloc(), &trace)
 }

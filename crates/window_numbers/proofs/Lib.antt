@@ -1,3 +1,11 @@
+pub mod LaneWindows
+pub mod BelowTen
+pub mod LaneSteps
+pub mod SignedLanes
+pub mod LaneWords
+pub mod TwoNumbers
+pub mod FourValues
+pub mod ZeroMarks
 mod LineEnds
 pub mod BufferedNumber
 pub mod LeftAfterNumber

@@ -7,7 +7,7 @@ use Rattle.std.specs.Str.Parse.{AllDigits}
 use Rattle.std.proofs.Common.{length-drop}
 use Rattle.std.proofs.lemmas.List.{get_or-drop}
 use Rattle.decimal.specs.Digits.{IsEight}
-use Rattle.decimal.specs.Numbers.{IsNumber, between}
+use Rattle.window_numbers.specs.SignedNumbers.{IsNumber, between}
 use Rattle.window_numbers.specs.Numbers.{BeginsWithValue, IsTail}
 use Rattle.window_numbers.proofs.NumbersInARow.{equal_or, negative_is, no_minus}
 use Rattle.window_numbers.proofs.PassedNumbers.{all_after}

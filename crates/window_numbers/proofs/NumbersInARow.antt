@@ -9,7 +9,7 @@ use Rattle.std.proofs.Common.{length-drop, eqb-true}
 use Rattle.std.proofs.lemmas.List.{get_or-drop, length-take}
 use Rattle.std.proofs.lemmas.Int.Digits.{digits_value-lt}
 use Rattle.std.proofs.Math.Nat.{pow-le-pow_right}
-use Rattle.decimal.specs.Numbers.{between, IsNumber, AreBetween, AreInARow}
+use Rattle.window_numbers.specs.SignedNumbers.{between, IsNumber, AreBetween, AreInARow}
 use Rattle.window_numbers.specs.declared.numbers.Numbers.{Numbers}
 use Rattle.window_numbers.specs.Numbers.{AreSeparators, AreShort, NumberStands, SeemToEnd, StandFrom, place, AreAfterGaps, IsGapTo}
 use Rattle.window_numbers.proofs.Gaps.{comes, no_gap}

@@ -1,3 +1,5 @@
+pub mod Lanes
+pub mod SignedNumbers
 pub mod Cursors
 pub mod Numbers
 pub mod Values

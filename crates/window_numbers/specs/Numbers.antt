@@ -1,7 +1,7 @@
 -- Numbers that are held of a window: where each stands among its bytes.
 use Rattle.std.specs.Prelude.{◌≡◌, ℕ, zero, suc, ◌+◌, ◌-◌, ◌<◌, ◌≤◌, Bool, true, false, not, count_by, List, [], ◌∷◌, ◌++◌, length, take}
 use Rattle.std.specs.Prelude.{drop, ℤ, pos, unsigned_abs, int_lt, slice_index_or, ◌^◌, ◌⊎◌}
-use Rattle.decimal.specs.Numbers.{IsNumber}
+use Rattle.window_numbers.specs.SignedNumbers.{IsNumber}
 use Rattle.std.specs.Simd.Lanes.{Each1}
 use Rattle.std.specs.List.{AllByRecursion}
 use Rattle.qbf_tokens.specs.declared.token.Comments.{Comments}

@@ -7,11 +7,11 @@ ghost use Rattle.window_numbers.specs.Numbers.{NumberStands, StandFrom, place};
 ghost use Rattle.window_numbers.specs.Values.{held, value};
 ghost use Rattle.window_numbers.specs.declared.numbers.TheConstants.{MOST, ROOM};
 
+use crate::four::{FourNumbers, four_numbers, four_numbers_between};
 use crate::numbers::{MOST, Numbers, ROOM};
 use crate::separators::{after_separators, all_separate};
 use crate::tails::{FourTails, Parted};
 use crate::usual::number_before;
-use decimal::{FourNumbers, four_numbers, four_numbers_between};
 use std::simd::prelude::*;
 
 impl Numbers {

@@ -1,4 +1,4 @@
-use Rattle.qrp_check.proofs.Cited.{◌≡◌, ◌++◌, take}
+use Rattle.trace_check.proofs.Cited.{◌≡◌, ◌++◌, take}
 use Rattle.qrp_check.proofs.trimming.push_sets.Given as goal
 
 abbrev pub invariant-loop-set : goal.invariant-loop-set

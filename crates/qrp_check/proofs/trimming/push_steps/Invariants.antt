@@ -1,4 +1,4 @@
-use Rattle.qrp_check.proofs.Cited.{◌≡◌, take, steps_at}
+use Rattle.trace_check.proofs.Cited.{◌≡◌, take, steps_at}
 use Rattle.qrp_check.proofs.trimming.push_steps.Given as goal
 
 abbrev pub invariant-loop-position : goal.invariant-loop-position

@@ -1,4 +1,4 @@
-use Rattle.qrp_check.proofs.Cited.{rules}
+use Rattle.trace_check.proofs.Cited.{rules}
 use Rattle.qrp_check.proofs.HeadlineOfVerdict.{headline}
 use Rattle.qrp_check.proofs.verifying.verify.Goals as goal
 

@@ -3,10 +3,10 @@ use Rattle.qbf_core.specs.Blocks.{pairs}
 use Rattle.qbf_core.specs.Rules.{reduced_quantifier}
 use Rattle.qbf_strategy.specs.Decisions.{decisions_by}
 use Rattle.qbf_strategy.specs.Winning.{opponent}
-use Rattle.qrp_check.proofs.CheckAnswers.{closed_of}
-use Rattle.qrp_check.specs.Proof.{side_of}
-use Rattle.qrp_winner.proofs.DecisionSizes.{some_variables}
-use Rattle.qrp_winner.proofs.IdleDecisions.{set_sees, set_size, set_wins}
+use Rattle.trace_check.proofs.CheckAnswers.{closed_of}
+use Rattle.trace_check.specs.Proof.{side_of}
+use Rattle.proof_decisions.proofs.DecisionSizes.{some_variables}
+use Rattle.proof_decisions.proofs.IdleDecisions.{set_sees, set_size, set_wins}
 use Rattle.qrp_winner.proofs.strategy.circuit_for.Goals as goal
 
 pub returns-in-Ok-clause-wins : goal.returns-in-Ok-clause-wins

@@ -1,4 +1,4 @@
-use Rattle.qrp_check.proofs.Cited.{rules, refl, Err}
+use Rattle.trace_check.proofs.Cited.{rules, refl, Err}
 use Rattle.qrp_check.specs.Checked.{IsChecked, call_of}
 use Rattle.qrp_check.specs.declared.verdict.Fault.TheVariants as fault
 use Rattle.qrp_winner.specs.Strategies.{HasReason, HasWinner}

@@ -1,4 +1,0 @@
-use Rattle.core_walk.proofs.distinct_lits.DistinctLits.lits.Goals as goal
-
-pub returns-in-Some : goal.returns-in-Some
-returns-in-Some g c = c.requires.kept.same c.args.position c.in-Some.lits.now c.in-Some.ensures

@@ -1,0 +1,4 @@
+pub mod Sizes
+pub mod ProofDecisions
+pub mod Removing
+pub mod Laws

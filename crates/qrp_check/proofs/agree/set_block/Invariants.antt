@@ -1,6 +1,0 @@
-use Rattle.qrp_check.proofs.Cited.{take, Passes}
-use Rattle.qrp_check.proofs.SetsAgree.{under}
-use Rattle.qrp_check.proofs.agree.set_block.Given as goal
-
-abbrev pub invariant-loop-var : goal.invariant-loop-var
-invariant-loop-var l = Passes l.prefix l.highest (under l.quantifier (take l.var-index l.vars)) l.reached

@@ -1,0 +1,16 @@
+pub mod StepFaults
+pub mod AddedSets
+pub mod ParentsReduced
+pub mod CoreTruth
+pub mod Soundness
+pub mod WiderRules
+pub mod TrimKeeps
+pub mod TrimAgain
+pub mod StepsAt
+pub mod Verdicts
+pub mod MarkedPlaces
+pub mod ListedCore
+pub mod StepPlaces
+pub mod SetsAgree
+pub mod CheckAnswers
+pub mod Cited
