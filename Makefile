@@ -43,7 +43,7 @@ MANDIR ?= $(PREFIX)/share/man
 
 # what is tested of what is built, but for the tests of the libraries
 TESTS = test-program test-strategy test-gates test-derivations test-tools test-examples test-library test-dist test-install test-many test-proofs \
-	test-definitions test-checks test-pages test-switches test-beside
+	test-definitions test-checks test-pages test-switches test-beside test-places
 
 .PHONY: all lib static demo try check test programs linked check-programs gate bench dist wheel deb image install uninstall help
 .PHONY: clean test-refusals $(TESTS)
@@ -54,10 +54,7 @@ all: $(PROGRAM) $(STRATEGY) $(GATES)
 $(PROGRAM) $(STRATEGY) $(GATES) &: $(SOURCES)
 	@echo 'proves and builds the programs: from nothing 7 to 30 minutes on four processors for the checker, and some more for strategies and gates; 4 GB of memory, and 4.4 GB of disk for what is kept'
 	RT=$(RT) gate/prove qrp_cmd qrp_strategy qrp_gates
-	mkdir -p bin
-	cp crates/qrp_cmd/out/qrp_cmd $(PROGRAM)
-	cp crates/qrp_strategy/out/qrp_strategy $(STRATEGY)
-	cp crates/qrp_gates/out/qrp_gates $(GATES)
+	RT=$(RT) packaging/link-programs bin qrp_cmd qrp_strategy qrp_gates
 
 lib: $(LIBRARY)
 
@@ -91,11 +88,7 @@ $(PROVED): $(SOURCES)
 
 # The programs are put in their places.
 programs:
-	mkdir -p bin
-	cp crates/qrp_cmd/out/qrp_cmd $(PROGRAM)
-	cp crates/qrp_echo/out/qrp_echo $(ECHO)
-	cp crates/qrp_strategy/out/qrp_strategy $(STRATEGY)
-	cp crates/qrp_gates/out/qrp_gates $(GATES)
+	RT=$(RT) packaging/link-programs bin qrp_cmd qrp_strategy qrp_gates qrp_echo
 
 test: $(PROVED)
 	RT=$(RT) packaging/build-library --proved lib
@@ -142,7 +135,7 @@ test-examples:
 	examples/check-all $(PROGRAM)
 
 test-library:
-	tests/library/test-library $(PROGRAM) lib $(wildcard $(STRATEGY))
+	tests/library/test-library $(PROGRAM) lib $(if $(wildcard $(STRATEGY)),$(STRATEGY) $(wildcard $(GATES)))
 
 test-dist:
 	$(if $(and $(wildcard $(PROGRAM).static),$(wildcard $(STRATEGY).static),$(wildcard $(GATES).static)),packaging/make-dist --check,@echo 'left out: test-dist')
@@ -164,6 +157,9 @@ test-switches:
 
 test-beside:
 	tests/bench/test-beside $(PROGRAM)
+
+test-places:
+	tests/program/test-places bin lib
 
 gate:
 	RT=$(RT) gate/run

@@ -121,10 +121,10 @@ def counted(name: str) -> str:
 
 
 def behind(way: FastWay) -> str:
-    """What is behind the doors of a fast way, in words."""
+    """What is behind the doors of a fast way, in words; nothing, if it has no file of its own."""
     files = [Path(name) for name in way.doors]
     names = ", ".join(f"`{file.name}`" + (f" of `{file.parts[0]}`" if file.parts[0] != way.crate else "") for file in files)
-    return f"Behind {names}: {counted(way.name)}." if files else "It has no file of its own."
+    return f" Behind {names}: {counted(way.name)}." if files else ""
 
 
 def rooms() -> str:
@@ -137,7 +137,7 @@ def item(way: FastWay, known: dict[str, FastWay]) -> str:
     """A point of the tree."""
     front = "  " * depth(way, known)
     places = ", ".join(f"`{place}`" for place in switched(way))
-    says = f"{way.says[:1].upper()}{way.says[1:]}. Switch `{way.name}`: {places} of `{way.crate}`. {behind(way)}"
+    says = f"{way.says[:1].upper()}{way.says[1:]}. Switch `{way.name}`: {places} of `{way.crate}`.{behind(way)}"
     return wrapped(f"**{way.title[:1].upper()}{way.title[1:]}.** {says}", front + "  ", f"{front}- ")
 
 
@@ -229,29 +229,28 @@ TEXT = """# What makes the checker fast
 
 This page is made by `bench/without --page` from the files of bench/switches and from docs/fast.rows.
 
-The checker is a whole one without anything that is told here: bytes to tokens, a token to its row, a step judged by sets. Beside that stand fast
-ways. A fast way only takes, accepts or guesses: where it says no, the plain way goes on and comes to the same result. So its contract says
-something only for a yes, and a switch of a few lines puts it out of use: the body of a small function becomes `false`, another one returns at once,
-or a method is left out that the trait has too. No clause, definition, lemma or stored proof changes for that. Who reads the code for the first time may leave all fast ways closed, and open one for its price.
+The checker is a whole one without anything that is told here: bytes to tokens, a token to its row, a step judged by sets. A fast way only takes,
+accepts or guesses: if it says no, the plain way goes on and comes to the same result. So its contract says something only for a yes, and a switch of a few
+lines puts it out of use. No clause, definition, lemma or stored proof changes for that. Who reads the code for the first time may leave all fast
+ways closed, and open one for its price.
 
 `bench/without NAME` puts the fast way of that name out of use, in a copy of the tree, and `bench/without --all` all of them; both prove and build
-the program there, and measure it beside the one of the tree. `bench/check-plain-program` compares the answers of the program without any.
+the program there, and measure it beside the one of the tree. `bench/check-plain-program` compares what the program without any prints.
 
 ## The fast ways
 
 They are a tree: one that is set in is of no use without the one above it. Prices of one branch do not multiply. A fast way begins at its doors:
-files that only it brings in. The lines are those of all files of code, definitions and proofs that nothing else needs, with those of the fast
-ways that are set in below it.
+files that only it brings in. The lines are those of all files of code, definitions and proofs that nothing else needs.
 
 {tree}
 
 ## What may stay closed
 
-Who reads the checker has the first room in the head, and may leave the doors of the others closed.
+Who reads the checker needs the first room, and may leave the doors of the others closed.
 
 {rooms}
 
-The last row has what no file of the rooms names: laws that say what the definitions mean, worked rows of definitions, and crates of tests.
+The last row has what no file of the rooms names: laws, worked rows of definitions, and crates of tests.
 `bench/without --lines` counts.
 
 ## What each buys
@@ -264,8 +263,8 @@ The last row has what no file of the rooms names: laws that say what the definit
 
 ## What keeps a check linear
 
-These are no fast ways, and belong to the plain program: without one of them the time of a check grows with the square of some size. Repetitions
-and parts of long antecedents are used only while a step is judged as it is written, so without that these take time again for each step.
+Without one of these, which belong to the plain program, the time of a check grows with the square of some size. Repetitions and parts of long
+antecedents are used only while a step is judged as it is written.
 
 {linear}
 
@@ -274,10 +273,10 @@ and parts of long antecedents are used only while a step is judged as it is writ
 ## How it was measured
 
 Instructions are those that `valgrind --tool=callgrind` counts, which other work on the machine does not change; CPU time is the least of seven runs
-of both programs by turns, which it does, and is left out below two hundredths of a second. The inputs are small, so that a start of the program counts in them too. Several fast ways may be out of
-use in one run, if none of them counts on the inputs of another. The command is `bench/without --store NAME ..`. The machine had {machine}.
-Each run is of the tree as it was then; the lines are those of the tree of the last count.
-So compare instructions first: times of a machine with other work differ by a tenth and more.
+of both programs by turns, and is left out below two hundredths of a second. Compare instructions first: times of a machine with other work differ by
+a tenth and more. The inputs are small, so that a start of the program counts in them too. Several fast ways may be out of use in one run, if none of
+them counts on the inputs of another. The command is `bench/without --store NAME ..`. The machine had {machine}. Each run is of the tree as it was
+then; the lines are those of the tree of the last count.
 
 {inputs}
 

@@ -15,6 +15,9 @@ size_t qrp_lent_trim(const void *, size_t, const void *, size_t, bool, char *, s
 size_t qrp_lent_strategy(const void *, size_t, const void *, size_t, bool, bool, char *, size_t, struct qrp_verdict *);
 size_t qrp_lent_format(const void *, size_t, char *, size_t, struct qrp_verdict *);
 size_t qrp_lent_core(const void *, size_t, const void *, size_t, bool, uint64_t *, size_t, struct qrp_verdict *);
+int32_t qrp_lent_gates_verify(const void *, size_t, const void *, size_t, bool, struct qrp_verdict *);
+size_t qrp_lent_gates_clauses(const void *, size_t, char *, size_t, struct qrp_verdict *);
+size_t qrp_lent_gates_strategy(const void *, size_t, const void *, size_t, bool, bool, char *, size_t, struct qrp_verdict *);
 int32_t qrp_lent_proof_clause(struct qrp_proof *, const int32_t *, size_t);
 int32_t qrp_lent_proof_clauses(struct qrp_proof *, const int32_t *, size_t, size_t *);
 size_t qrp_lent_proof_core(struct qrp_proof *, bool, bool, uint64_t *, size_t, struct qrp_verdict *);
@@ -57,6 +60,21 @@ size_t qrp_core(const void *formula, size_t formula_length, const void *trace, s
                 size_t room, struct qrp_verdict *out) {
     return qrp_lent_core(LENT(formula, formula_length), formula_length, LENT(trace, trace_length), trace_length, any_pivot,
                          LENT(steps, room), room, out);
+}
+
+int32_t qrp_gates_verify(const void *formula, size_t formula_length, const void *trace, size_t trace_length, bool any_pivot,
+                         struct qrp_verdict *out) {
+    return qrp_lent_gates_verify(LENT(formula, formula_length), formula_length, LENT(trace, trace_length), trace_length, any_pivot, out);
+}
+
+size_t qrp_gates_clauses(const void *formula, size_t formula_length, char *buffer, size_t room, struct qrp_verdict *out) {
+    return qrp_lent_gates_clauses(LENT(formula, formula_length), formula_length, LENT(buffer, room), room, out);
+}
+
+size_t qrp_gates_strategy(const void *formula, size_t formula_length, const void *trace, size_t trace_length, bool any_pivot, bool binary,
+                          char *buffer, size_t room, struct qrp_verdict *out) {
+    return qrp_lent_gates_strategy(LENT(formula, formula_length), formula_length, LENT(trace, trace_length), trace_length, any_pivot, binary,
+                                   LENT(buffer, room), room, out);
 }
 
 int32_t qrp_proof_clause(struct qrp_proof *proof, const int32_t *literals, size_t count) {
