@@ -5,6 +5,7 @@ A text is `clauses(text)`: the formula in QDIMACS, or it raises `Refused` with t
 """
 
 import re
+from typing import Any
 
 TOKEN = re.compile(rb"[ \t\r]*(?:([A-Za-z0-9_]+)|([#(),=-])|([^ \t\r]))")
 QUANTIFIERS = {b"exists": "e", b"forall": "a"}
@@ -147,7 +148,7 @@ def clauses(text: bytes) -> bytes:
     sign, name = formula.output
     if name not in formula.numbers:
         raise Refused("Q5", len(lines))
-    rows = [[letter, *block] for letter, block in formula.blocks]
+    rows: list[Any] = [[letter, *block] for letter, block in formula.blocks]
     rows += [*formula.clauses, [sign * formula.numbers[name]]]
     header = f"p cnf {len(formula.numbers)} {len(formula.clauses) + 1}\n"
     return (header + "".join(" ".join(map(str, [*row, 0])) + "\n" for row in rows)).encode()

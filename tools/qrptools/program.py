@@ -80,12 +80,17 @@ def trimmed(formula: str, trace: str, flags: list[str], folder: str) -> str:
     return path
 
 
-def circuit_of(formula: str, trace: str, flags: list[str], folder: str) -> str:
-    """The file of the circuit by which the winner wins, in this folder."""
+def circuit_of(formula: str, trace: str, flags: list[str], folder: str, name: str) -> str:
+    """The file of the circuit by which the winner wins, in this folder, as qrp_strategy makes it, or for a formula of gates qrp_gates."""
     path = os.path.join(folder, "strategy.aig")
     with writing(*WRITTEN[STRATEGY]):
-        write_output(path, STRATEGY, ["--binary", *flags], formula, trace)
+        write_circuit(path, name, ["--binary", *flags], formula, trace)
     return path
+
+
+def write_circuit(path: str, name: str, flags: list[str], formula: str, trace: str) -> None:
+    """Writes the winner's circuit to a file, as one of the programs makes it."""
+    write_output(path, name, ["strategy", *flags] if name == GATES else flags, formula, trace)
 
 
 def write_output(path: str, name: str, words: list[str], formula: str, trace: str) -> None:
@@ -97,11 +102,11 @@ def write_output(path: str, name: str, words: list[str], formula: str, trace: st
     if line.startswith("REFUSED "):
         raise finding(f"{name} refuses the proof: {line}; '{called_as('explain')} FORMULA TRACE' says why")
     if status:
-        raise unusable(why_not(line, status, formula, trace, name))
+        raise unusable(why_not(line, status, formula, trace, name, STRATEGY if "strategy" in words else name))
 
 
-def why_not(line: str, status: int, formula: str, trace: str, name: str = CHECKER) -> str:
-    """Why the program wrote nothing, where it does not refuse the proof."""
+def why_not(line: str, status: int, formula: str, trace: str, name: str = CHECKER, made: Optional[str] = None) -> str:
+    """Why the program wrote nothing, where it does not refuse the proof. It may write what another program is for, which is named too."""
     if line in ("DEVICE formula", "DEVICE trace"):
         path = formula if line == "DEVICE formula" else trace
         return f"{line}: {reason_not_read(path)}"
@@ -109,7 +114,7 @@ def why_not(line: str, status: int, formula: str, trace: str, name: str = CHECKE
         return f"{line}: raise the limit (`ulimit -v`), or take a machine with more memory"
     if status < 0:
         return f"{signal_of(status)} ended {name}"
-    what, needs = WRITTEN[name]
+    what, needs = WRITTEN[made or name]
     return f"{name} says: {line}" if line else not_written(what, f"{name} ended with status {status}", needs)
 
 

@@ -1,8 +1,8 @@
 -- The bytes of numbers and gates, one after the other.
 use Rattle.qbf_core.proofs.Cited.{arith, ◌≡◌, ◌<◌, ◌≤◌, ◌+◌, ◌-◌, ℕ, suc, List, [], ◌∷◌, ◌++◌, ap, ◌∙◌, sym, Some, slice_get, drop}
 use Rattle.qbf_core.proofs.Cited.{length}
-use Rattle.std.proofs.Common.{◌/◌, ◌%◌, map}
-use Rattle.std.specs.Prelude.{Ok, Option, codes}
+use Rattle.std.proofs.Common.{◌/◌, ◌%◌}
+use Rattle.std.specs.Prelude.{Ok, Option}
 use Rattle.std.proofs.Common.{subst}
 use Rattle.std.proofs.lemmas.List.{append-nil}
 use Rattle.std.specs.Io.KnownBytes.{Appends}
@@ -12,8 +12,6 @@ use Rattle.qbf_text.proofs.SentParts.{drop_at}
 use Rattle.aiger.specs.declared.circuit.Gate.{Gate}
 use Rattle.aiger.specs.Binary.{gate_bytes, gates_bytes, groups}
 use Rattle.aiger.specs.Circuits.{Circuit, first_gate}
-use Rattle.aiger.specs.Texts.{symbol_lines, symbols}
-use Rattle.aiger.specs.Wires.{Wire}
 
 step : (i : ℕ) → i < 5 → 5 - i ≡ suc (5 - (i + 1))
 step i less = omega arith
@@ -43,14 +41,10 @@ gates_next first gates i g at =
     ap (gates_bytes (first + i)) (drop_at gates i g at)
     ∙ ap (λ n. gate_bytes (first + i) g ++ gates_bytes n (drop (i + 1) gates)) k
 
--- the gates of a circuit and what stands after them, by the lists that it has
-pub rest_is : (c : Circuit) (inputs : List ℕ) (outputs : List (ℕ × Wire)) (gates : List Gate) → inputs ≡ c.inputs → outputs ≡ c.outputs
-    → gates ≡ c.gates
-    → gates_bytes (length inputs + 1) gates ++ (symbol_lines (codes "i") 0 inputs ++ symbol_lines (codes "o") 0 (map (λ o. o.0) outputs))
-    ≡ gates_bytes (first_gate c) c.gates ++ symbols c
-rest_is c inputs outputs gates a b d =
-    let k : length c.inputs + 1 ≡ first_gate c = omega arith in
-    rw (a, b, d) (ap (λ n. gates_bytes n c.gates ++ symbols c) k)
+-- the gates of a circuit, by how many inputs it has and by the list
+pub gates_are : (c : Circuit) (count : ℕ) (gates : List Gate) → count ≡ length c.inputs → gates ≡ c.gates
+    → gates_bytes (count + 1) gates ≡ gates_bytes (first_gate c) c.gates
+gates_are c count gates a b = let k : length c.inputs + 1 ≡ first_gate c = omega arith in rw (a, b) (ap (λ n. gates_bytes n c.gates) k)
 
 -- nothing is left to be sent
 pub sent_all : {S T E : Type 0} {written : S → Option (List ℕ)} {failures : S → ℕ} (failed_last : S

@@ -1,24 +1,24 @@
 -- The texts of a circuit read back.
 use Rattle.std.proofs.Common.{arith, ◌≡◌, ◌<◌, ◌≤◌, ◌+◌, ◌-◌, ◌*◌, ◌/◌, ◌%◌, ◌^◌, ℕ, suc, nat_eq, nat_lt, Bool, true, false, cond, List, [], ◌∷◌, ◌++◌}
-use Rattle.std.proofs.Common.{refl, sym, ap, subst, ◌∙◌, length, map, Option, None, Some, codes, decimal, inl, inr, ◌⊎◌}
+use Rattle.std.proofs.Common.{refl, sym, ap, ◌∙◌, length, map, Option, None, Some, codes, decimal, inl, inr, ◌⊎◌}
 use Rattle.std.specs.List.{AllByRecursion, flat_map}
 use Rattle.std.proofs.lemmas.Fmt.{decimal_by_steps}
 use Rattle.std.proofs.lemmas.Grind.{common_steps}
 use Rattle.std.proofs.lemmas.List.{append_assoc, append-nil}
 use Rattle.aiger.specs.Circuits.{Circuit, Gate, IsOrdered, StandBelow, first_gate}
 use Rattle.aiger.specs.Wires.{Wire, number_of, wire_of}
-use Rattle.aiger.specs.Texts.{ascii_text, counts, gate_lines, header, input_line, input_lines, numbers_line, output_line}
-use Rattle.aiger.specs.Texts.{symbol_lines, symbols}
-use Rattle.aiger.specs.Reading.{and_then, ascii_circuit, digits_after, ended, gates_read, header_counts, inputs_read}
-use Rattle.aiger.specs.Reading.{binary_circuit, delta, deltas_read, is_digit, named, names_read, number, outputs_read, with_names}
-use Rattle.aiger.specs.Reading.{word, Counts}
-use Rattle.aiger.specs.Binary.{binary_text, gate_bytes, gates_bytes, greater, groups, lesser, number_bytes}
+use Rattle.aiger.specs.Texts.{ascii_text, beginning, counts, gate_lines, header, input_line, input_lines, numbers_line, output_line}
+use Rattle.aiger.specs.Texts.{symbol_lines, symbols, unnamed_ascii}
+use Rattle.aiger.specs.Reading.{and_then, ascii_circuit, ascii_parts, digits_after, ended, gates_read, header_counts, inputs_read}
+use Rattle.aiger.specs.Reading.{binary_circuit, binary_parts, circuit_of, delta, deltas_read, is_digit, named, names_read, number, outputs_read}
+use Rattle.aiger.specs.Reading.{parts_before, table_read, with_names, word, Counts, Parts}
+use Rattle.aiger.specs.Binary.{binary_beginning, binary_text, gate_bytes, gates_bytes, greater, groups, lesser, number_bytes, unnamed_binary}
 use Rattle.aiger.specs.Laws.{AreNamed, CircuitsReadBack, greater_first}
 use Rattle.aiger.proofs.BinaryNumbers.{last_group, next_group}
 
 -- ---- one thing after the other
 
-goes_on : {X Y : Type 0} (o : Option X) (x : X) (f : X → Option Y) → o ≡ Some x → and_then o f ≡ f x
+pub goes_on : {X Y : Type 0} (o : Option X) (x : X) (f : X → Option Y) → o ≡ Some x → and_then o f ≡ f x
 goes_on o x f is = ap (λ (p : Option _). and_then p f) is
 
 same_number : (n : ℕ) → nat_eq n n ≡ true
@@ -158,74 +158,114 @@ gates_back n (g ∷ gates) rest few below =
     ∙ (ap (λ (w : Wire). Some (record { left = w; right = wire_of (number_of g.right) } ∷ gates, rest)) (wire_back g.left)
     ∙ ap (λ (w : Wire). Some (record { left = g.left; right = w } ∷ gates, rest)) (wire_back g.right))))))
 
-names_back : (letter : List ℕ) (n : ℕ) (names rest : List ℕ) → n + length names < 2 ^ 64 → AllByRecursion (λ v. v < 2 ^ 64) names
-    → names_read letter (length names) n (symbol_lines letter n names ++ rest) ≡ Some (names, rest)
-names_back letter n [] rest few small = refl
-names_back letter n (v ∷ names) rest few small =
-    let after : List ℕ = symbol_lines letter (suc n) names ++ rest in
-    let after_n : List ℕ = decimal v ++ (10 ∷ after) in
-    let written : symbol_lines letter n (v ∷ names) ++ rest ≡ letter ++ (decimal n ++ (32 ∷ after_n)) = simp append_assoc refl in
-    ap (names_read letter (suc (length names)) n) written
+-- each text is read as a name, with the end of its line
+abbrev pub AreRead : {X : Type 0} → (List ℕ → Option (X × List ℕ)) → List (List ℕ) → List X → Type 0
+AreRead read [] [] = Unit {0}
+AreRead read [] (x ∷ xs) = ⊥
+AreRead read (t ∷ ts) [] = ⊥
+AreRead read (t ∷ ts) (x ∷ xs) = ((rest : List ℕ) → read (t ++ (10 ∷ rest)) ≡ Some (x, rest)) × AreRead read ts xs
+
+names_back : {X : Type 0} (read : List ℕ → Option (X × List ℕ)) (letter : List ℕ) (n : ℕ) (ts : List (List ℕ)) (xs : List X)
+    (rest : List ℕ) → n + length xs < 2 ^ 64 → AreRead read ts xs
+    → names_read read letter (length xs) n (symbol_lines letter n ts ++ rest) ≡ Some (xs, rest)
+names_back read letter n [] [] rest few are = refl
+names_back read letter n [] (x ∷ xs) rest few are = absurd are
+names_back read letter n (t ∷ ts) [] rest few are = absurd are
+names_back read letter n (t ∷ ts) (x ∷ xs) rest few are =
+    let after : List ℕ = symbol_lines letter (suc n) ts ++ rest in
+    let after_n : List ℕ = t ++ (10 ∷ after) in
+    let written : symbol_lines letter n (t ∷ ts) ++ rest ≡ letter ++ (decimal n ++ (32 ∷ after_n)) = simp append_assoc refl in
+    ap (names_read read letter (suc (length xs)) n) written
     ∙ (goes_on (word letter (letter ++ (decimal n ++ (32 ∷ after_n)))) (decimal n ++ (32 ∷ after_n)) _ (word_back letter (decimal n ++ (32 ∷ after_n)))
     ∙ (goes_on (number 32 (decimal n ++ (32 ∷ after_n))) (n, after_n) _ (blank_back n after_n (omega (arith, few)))
-    ∙ (goes_on (number 10 after_n) (v, after) _ (line_back v after small.0)
-    ∙ rw (same_number n) (goes_on (names_read letter (length names) (suc n) after) (names, rest) _
-    (names_back letter (suc n) names rest (omega (arith, few)) small.1)))))
+    ∙ (goes_on (read after_n) (x, after) _ (are.0 after)
+    ∙ rw (same_number n) (goes_on (names_read read letter (length xs) (suc n) after) (xs, rest) _
+    (names_back read letter (suc n) ts xs rest (omega (arith, few)) are.1)))))
 
-named_back : (os : List (ℕ × Wire)) → named (map (λ o. o.0) os) (map (λ o. o.1) os) ≡ os
-named_back [] = refl
-named_back (o ∷ os) = ap (λ (more : List (ℕ × Wire)). o ∷ more) (named_back os)
+-- the names of a table read back
+pub table_back : {X : Type 0} (read : List ℕ → Option (X × List ℕ)) (k : Counts) (is os : List (List ℕ)) (xs ys : List X)
+    → k.inputs ≡ length xs → k.outputs ≡ length ys → length xs < 2 ^ 64 → length ys < 2 ^ 64 → AreRead read is xs → AreRead read os ys
+    → table_read read k (symbol_lines (codes "i") 0 is ++ symbol_lines (codes "o") 0 os) ≡ Some (xs, ys)
+table_back read k is os xs ys inputs outputs few_inputs few_outputs in_read out_read =
+    let after : List ℕ = symbol_lines (codes "o") 0 os in
+    goes_on (names_read read (codes "i") k.inputs 0 (symbol_lines (codes "i") 0 is ++ after)) (xs, after) _
+    (ap (λ (n : ℕ). names_read read (codes "i") n 0 (symbol_lines (codes "i") 0 is ++ after)) inputs
+    ∙ names_back read (codes "i") 0 is xs after (omega (arith, few_inputs)) in_read)
+    ∙ goes_on (names_read read (codes "o") k.outputs 0 after) (ys, []) _
+    (ap (λ (n : ℕ). names_read read (codes "o") n 0 after) outputs
+    ∙ (ap (names_read read (codes "o") (length ys) 0) (sym (append-nil after))
+    ∙ names_back read (codes "o") 0 os ys [] (omega (arith, few_outputs)) out_read))
 
-symbols_back : (c : Circuit) (gates : List Gate) → length c.inputs < 2 ^ 64 → length c.outputs < 2 ^ 64
-    → AllByRecursion (λ v. v < 2 ^ 64) c.inputs → AllByRecursion (λ v. v < 2 ^ 64) (map (λ o. o.0) c.outputs)
-    → with_names (record { inputs = length c.inputs; outputs = length c.outputs; gates = length c.gates }) (map (λ o. o.1) c.outputs) gates
-    (symbols c)
-    ≡ Some (record { inputs = c.inputs; outputs = c.outputs; gates = gates })
-symbols_back c gates few_inputs few_outputs inputs outputs =
-    let names : List ℕ = map (λ o. o.0) c.outputs in
-    let wires : List Wire = map (λ o. o.1) c.outputs in
-    let count : length names ≡ length c.outputs = count_names c.outputs in
-    let after : List ℕ = symbol_lines (codes "o") 0 names in
-    goes_on (names_read (codes "i") (length c.inputs) 0 (symbols c)) (c.inputs, after) _
-    (names_back (codes "i") 0 c.inputs after (omega (arith, few_inputs)) inputs)
-    ∙ (goes_on (names_read (codes "o") (length c.outputs) 0 after) (names, []) _
-    (subst (λ (n : ℕ). names_read (codes "o") n 0 after ≡ Some (names, [])) count
-    (ap (names_read (codes "o") (length names) 0) (sym (append-nil after))
-    ∙ names_back (codes "o") 0 names [] (let e = count in omega (arith, e, few_outputs)) outputs))
-    ∙ ap (λ (os : List (ℕ × Wire)). Some (record { inputs = c.inputs; outputs = os; gates = gates })) (named_back c.outputs))
-  where
-    count_names : (os : List (ℕ × Wire)) → length (map (λ o. o.0) os) ≡ length os
-    count_names [] = refl
-    count_names (o ∷ os) = ap suc (count_names os)
+pub named_back : {X : Type 0} (f : ℕ → X) (os : List (ℕ × Wire))
+    → named (map f (map (λ o. o.0) os)) (map (λ o. o.1) os) ≡ map (λ o. (f o.0, o.1)) os
+named_back f [] = refl
+named_back f (o ∷ os) = ap (λ (more : List (_ × Wire)). (f o.0, o.1) ∷ more) (named_back f os)
 
-pub ascii_back : (c : Circuit) → IsOrdered c → AreNamed c → ascii_circuit (ascii_text c) ≡ Some c
-ascii_back c ordered names =
-    let after_gates : Counts → List Wire → List Gate × List ℕ → Option Circuit = λ k ws g. with_names k ws g.0 g.1 in
-    let after_outputs : Counts → List Wire × List ℕ → Option Circuit = λ k o. and_then (gates_read k.gates (suc k.inputs) o.1) (after_gates k o.0) in
-    let after_inputs : Counts → List ℕ → Option Circuit = λ k t. and_then (outputs_read k.outputs t) (after_outputs k) in
-    let after_header : Counts × List ℕ → Option Circuit = λ k. and_then (inputs_read k.0.inputs 1 k.1) (after_inputs k.0) in
-    let after_word : List ℕ → Option Circuit = λ t. and_then (header_counts t) after_header in
-    let rest_o : List ℕ = gate_lines (first_gate c) c.gates ++ symbols c in
+names_itself : (os : List (ℕ × Wire)) → named (map (λ o. o.0) os) (map (λ o. o.1) os) ≡ os
+names_itself [] = refl
+names_itself (o ∷ os) = ap (λ (more : List (ℕ × Wire)). o ∷ more) (names_itself os)
+
+numbers_read : (ns : List ℕ) → AllByRecursion (λ v. v < 2 ^ 64) ns → AreRead (number 10) (map decimal ns) ns
+numbers_read [] small = tt
+numbers_read (n ∷ ns) small = (λ rest. line_back n rest small.0, numbers_read ns small.1)
+
+pub count_names : (os : List (ℕ × Wire)) → length (map (λ o. o.0) os) ≡ length os
+count_names [] = refl
+count_names (o ∷ os) = ap suc (count_names os)
+
+-- what is read before the symbols of a circuit with these gates
+abbrev pub parts_of : Circuit → List Gate → Parts
+parts_of c gates = record {
+  counts = record { inputs = length c.inputs; outputs = length c.outputs; gates = length c.gates };
+  wires = map (λ o. o.1) c.outputs;
+  gates = gates;
+}
+
+symbols_back : (c : Circuit) (gates : List Gate) → length c.inputs < 2 ^ 64 → AreNamed c
+    → with_names (parts_of c gates, symbols c) ≡ Some (record { inputs = c.inputs; outputs = c.outputs; gates = gates })
+symbols_back c gates few names =
+    let numbers : List ℕ = map (λ o. o.0) c.outputs in
+    goes_on (table_read (number 10) (parts_of c gates).counts (symbols c)) (c.inputs, numbers) (circuit_of (parts_of c gates))
+    (table_back (number 10) (parts_of c gates).counts (map decimal c.inputs) (map decimal numbers) c.inputs numbers refl
+    (sym (count_names c.outputs)) few (let e = count_names c.outputs in let f = names.few in omega (arith, e, f))
+    (numbers_read c.inputs names.inputs) (numbers_read numbers names.outputs))
+    ∙ ap (λ (os : List (ℕ × Wire)). Some (record { inputs = c.inputs; outputs = os; gates = gates })) (names_itself c.outputs)
+
+-- what stands before the symbols reads back, whatever these are
+pub ascii_parts_back : (c : Circuit) (rest : List ℕ) → IsOrdered c → length c.outputs < 2 ^ 64
+    → ascii_parts (unnamed_ascii c ++ rest) ≡ Some (parts_of c c.gates, rest)
+ascii_parts_back c rest ordered few_outputs =
+    let after_outputs : Counts → List Wire × List ℕ → Option (Parts × List ℕ) = λ k o. and_then (gates_read k.gates (suc k.inputs) o.1) (parts_before k o.0) in
+    let after_inputs : Counts → List ℕ → Option (Parts × List ℕ) = λ k t. and_then (outputs_read k.outputs t) (after_outputs k) in
+    let after_header : Counts × List ℕ → Option (Parts × List ℕ) = λ k. and_then (inputs_read k.0.inputs 1 k.1) (after_inputs k.0) in
+    let after_word : List ℕ → Option (Parts × List ℕ) = λ t. and_then (header_counts t) after_header in
+    let rest_o : List ℕ = gate_lines (first_gate c) c.gates ++ rest in
     let rest_i : List ℕ = flat_map output_line c.outputs ++ rest_o in
     let rest_h : List ℕ = input_lines 1 c.inputs ++ rest_i in
     let rest_w : List ℕ = counts c ++ rest_h in
     let found : Counts = record { inputs = length c.inputs; outputs = length c.outputs; gates = length c.gates } in
     let wires : List Wire = map (λ o. o.1) c.outputs in
     let few = ordered.few in
-    let written : ascii_text c ≡ codes "aag" ++ rest_w =
-    append_assoc (header c) (input_lines 1 c.inputs ++ flat_map output_line c.outputs) rest_o
+    let written : unnamed_ascii c ++ rest ≡ codes "aag" ++ rest_w =
+    append_assoc (beginning c) (gate_lines (first_gate c) c.gates) rest
+    ∙ (append_assoc (header c) (input_lines 1 c.inputs ++ flat_map output_line c.outputs) rest_o
     ∙ (ap (λ (t : List ℕ). header c ++ t) (append_assoc (input_lines 1 c.inputs) (flat_map output_line c.outputs) rest_o)
-    ∙ append_assoc (codes "aag") (counts c) rest_h) in
-    ap ascii_circuit written
+    ∙ append_assoc (codes "aag") (counts c) rest_h)) in
+    ap ascii_parts written
     ∙ (goes_on (word (codes "aag") (codes "aag" ++ rest_w)) rest_w after_word (word_back (codes "aag") rest_w)
     ∙ (goes_on (header_counts rest_w) (found, rest_h) after_header
-    (header_back (length c.inputs) (length c.outputs) (length c.gates) rest_h (omega (arith, few)) names.few)
+    (header_back (length c.inputs) (length c.outputs) (length c.gates) rest_h (omega (arith, few)) few_outputs)
     ∙ (goes_on (inputs_read (length c.inputs) 1 rest_h) rest_i (after_inputs found) (inputs_back 1 c.inputs rest_i (omega (arith, few)))
     ∙ (goes_on (outputs_read (length c.outputs) rest_i) (wires, rest_o) (after_outputs found)
     (outputs_back (first_gate c + length c.gates) c.outputs rest_o few ordered.outputs)
-    ∙ (goes_on (gates_read (length c.gates) (first_gate c) rest_o) (c.gates, symbols c) (after_gates found wires)
-    (gates_back (first_gate c) c.gates (symbols c) few ordered.gates)
-    ∙ symbols_back c c.gates (omega (arith, few)) names.few names.inputs names.outputs)))))
+    ∙ goes_on (gates_read (length c.gates) (first_gate c) rest_o) (c.gates, rest) (parts_before found wires)
+    (gates_back (first_gate c) c.gates rest few ordered.gates)))))
+
+pub ascii_back : (c : Circuit) → IsOrdered c → AreNamed c → ascii_circuit (ascii_text c) ≡ Some c
+ascii_back c ordered names =
+    let few = ordered.few in
+    goes_on (ascii_parts (ascii_text c)) (parts_of c c.gates, symbols c) with_names (ascii_parts_back c (symbols c) ordered names.few)
+    ∙ symbols_back c c.gates (omega (arith, few)) names
 
 -- ---- the binary format
 
@@ -320,32 +360,37 @@ deltas_back n (g ∷ gates) rest few below =
     ∙ (ap (λ (k : ℕ). Some (gate_of (wire_of (greater g)) (wire_of k) ∷ more, rest)) right
     ∙ ap (λ (h : Gate). Some (h ∷ more, rest)) (gate_back g))))))
 
-pub binary_back : (c : Circuit) → IsOrdered c → AreNamed c
-    → binary_circuit (binary_text c) ≡ Some (record { inputs = c.inputs; outputs = c.outputs; gates = map greater_first c.gates })
-binary_back c ordered names =
-    let after_gates : Counts → List Wire → List Gate × List ℕ → Option Circuit = λ k ws g. with_names k ws g.0 g.1 in
-    let after_outputs : Counts → List Wire × List ℕ → Option Circuit = λ k o. and_then (deltas_read k.gates (suc k.inputs) o.1) (after_gates k o.0) in
-    let after_header : Counts × List ℕ → Option Circuit = λ k. and_then (outputs_read k.0.outputs k.1) (after_outputs k.0) in
-    let after_word : List ℕ → Option Circuit = λ t. and_then (header_counts t) after_header in
-    let rest_o : List ℕ = gates_bytes (first_gate c) c.gates ++ symbols c in
+pub binary_parts_back : (c : Circuit) (rest : List ℕ) → IsOrdered c → length c.outputs < 2 ^ 64
+    → binary_parts (unnamed_binary c ++ rest) ≡ Some (parts_of c (map greater_first c.gates), rest)
+binary_parts_back c rest ordered few_outputs =
+    let after_outputs : Counts → List Wire × List ℕ → Option (Parts × List ℕ) = λ k o. and_then (deltas_read k.gates (suc k.inputs) o.1) (parts_before k o.0) in
+    let after_header : Counts × List ℕ → Option (Parts × List ℕ) = λ k. and_then (outputs_read k.0.outputs k.1) (after_outputs k.0) in
+    let after_word : List ℕ → Option (Parts × List ℕ) = λ t. and_then (header_counts t) after_header in
+    let rest_o : List ℕ = gates_bytes (first_gate c) c.gates ++ rest in
     let rest_h : List ℕ = flat_map output_line c.outputs ++ rest_o in
     let rest_w : List ℕ = counts c ++ rest_h in
     let found : Counts = record { inputs = length c.inputs; outputs = length c.outputs; gates = length c.gates } in
     let wires : List Wire = map (λ o. o.1) c.outputs in
-    let gates : List Gate = map greater_first c.gates in
     let few = ordered.few in
-    let written : binary_text c ≡ codes "aig" ++ rest_w =
-    append_assoc (codes "aig") (counts c ++ flat_map output_line c.outputs) rest_o
-    ∙ ap (λ (t : List ℕ). codes "aig" ++ t) (append_assoc (counts c) (flat_map output_line c.outputs) rest_o) in
-    ap binary_circuit written
+    let written : unnamed_binary c ++ rest ≡ codes "aig" ++ rest_w =
+    append_assoc (binary_beginning c) (gates_bytes (first_gate c) c.gates) rest
+    ∙ (append_assoc (codes "aig") (counts c ++ flat_map output_line c.outputs) rest_o
+    ∙ ap (λ (t : List ℕ). codes "aig" ++ t) (append_assoc (counts c) (flat_map output_line c.outputs) rest_o)) in
+    ap binary_parts written
     ∙ (goes_on (word (codes "aig") (codes "aig" ++ rest_w)) rest_w after_word (word_back (codes "aig") rest_w)
     ∙ (goes_on (header_counts rest_w) (found, rest_h) after_header
-    (header_back (length c.inputs) (length c.outputs) (length c.gates) rest_h (omega (arith, few)) names.few)
+    (header_back (length c.inputs) (length c.outputs) (length c.gates) rest_h (omega (arith, few)) few_outputs)
     ∙ (goes_on (outputs_read (length c.outputs) rest_h) (wires, rest_o) (after_outputs found)
     (outputs_back (first_gate c + length c.gates) c.outputs rest_o few ordered.outputs)
-    ∙ (goes_on (deltas_read (length c.gates) (first_gate c) rest_o) (gates, symbols c) (after_gates found wires)
-    (deltas_back (first_gate c) c.gates (symbols c) few ordered.gates)
-    ∙ symbols_back c gates (omega (arith, few)) names.few names.inputs names.outputs))))
+    ∙ goes_on (deltas_read (length c.gates) (first_gate c) rest_o) (map greater_first c.gates, rest) (parts_before found wires)
+    (deltas_back (first_gate c) c.gates rest few ordered.gates))))
+
+pub binary_back : (c : Circuit) → IsOrdered c → AreNamed c
+    → binary_circuit (binary_text c) ≡ Some (record { inputs = c.inputs; outputs = c.outputs; gates = map greater_first c.gates })
+binary_back c ordered names =
+    let few = ordered.few in
+    goes_on (binary_parts (binary_text c)) (parts_of c (map greater_first c.gates), symbols c) with_names (binary_parts_back c (symbols c) ordered names.few)
+    ∙ symbols_back c (map greater_first c.gates) (omega (arith, few)) names
 
 pub circuits_read_back : CircuitsReadBack
 circuits_read_back c ordered names = (ascii_back c ordered names, binary_back c ordered names)

@@ -7,7 +7,7 @@ use Rattle.std.proofs.lemmas.List.{length-append}
 use Rattle.std.specs.List.{AllByRecursion}
 use Rattle.qbf_core.proofs.Cited.{eqb_tells}
 use Rattle.aiger.specs.Circuits.{AreValues, Circuit, Gate, IsOrdered, IsRun, KeepsGates, StandBelow, both, gate_value}
-use Rattle.aiger.specs.Trimming.{AddsGate, Agree, IsSame, IsSameCircuit, IsTrimming, IsUntrimmed, OutputsSame}
+use Rattle.aiger.specs.Trimming.{AddsGate, Agree, IsSame, IsSameCircuit, IsTrimming, OutputsSame}
 use Rattle.aiger.specs.Trimming.{PutsGate}
 use Rattle.aiger.specs.Wires.{Wire, constant, plain, turned, value_at}
 use Rattle.aiger.proofs.Folds.{opposite_value}

@@ -37,6 +37,10 @@ gates_bytes n (g ∷ gates) = gate_bytes n g ++ gates_bytes (suc n) gates
 abbrev pub binary_beginning : Circuit → List ℕ
 binary_beginning c = codes "aig" ++ counts c ++ flat_map output_line c.outputs
 
+-- what stands before the symbols
+abbrev pub unnamed_binary : Circuit → List ℕ
+unnamed_binary c = binary_beginning c ++ gates_bytes (first_gate c) c.gates
+
 -- the text of a circuit
 abbrev pub binary_text : Circuit → List ℕ
-binary_text c = binary_beginning c ++ (gates_bytes (first_gate c) c.gates ++ symbols c)
+binary_text c = unnamed_binary c ++ symbols c

@@ -82,19 +82,19 @@ gates_read (suc k) n text =
     and_then (number 10 l.1) (λ r. if nat_eq v.0 (2 * n) then and_then (gates_read k (suc n) r.1) (with_gate l.0 r.0) else None)))
 
 -- with a name in front of others
-abbrev pub with_name : ℕ → List ℕ × List ℕ → Option (List ℕ × List ℕ)
+abbrev pub with_name : {X : Type 0} → X → List X × List ℕ → Option (List X × List ℕ)
 with_name name more = Some (name ∷ more.0, more.1)
 
--- the symbols of this many inputs or outputs, the first of which has the position n: names that are numbers
-abbrev pub names_read : List ℕ → ℕ → ℕ → List ℕ → Option (List ℕ × List ℕ)
-names_read letter zero n text = Some ([], text)
-names_read letter (suc k) n text =
+-- the symbols of this many inputs or outputs, the first of which has the position n; a name is read with the end of its line
+abbrev pub names_read : {X : Type 0} → (List ℕ → Option (X × List ℕ)) → List ℕ → ℕ → ℕ → List ℕ → Option (List X × List ℕ)
+names_read name letter zero n text = Some ([], text)
+names_read name letter (suc k) n text =
     and_then (word letter text) (λ t.
     and_then (number 32 t) (λ p.
-    and_then (number 10 p.1) (λ v. if nat_eq p.0 n then and_then (names_read letter k (suc n) v.1) (with_name v.0) else None)))
+    and_then (name p.1) (λ v. if nat_eq p.0 n then and_then (names_read name letter k (suc n) v.1) (with_name v.0) else None)))
 
 -- names and wires side by side
-abbrev pub named : List ℕ → List Wire → List (ℕ × Wire)
+abbrev pub named : {X : Type 0} → List X → List Wire → List (X × Wire)
 named [] ws = []
 named (n ∷ ns) [] = []
 named (n ∷ ns) (w ∷ ws) = (n, w) ∷ named ns ws
@@ -104,21 +104,30 @@ abbrev pub at_end : {X : Type 0} → X → List ℕ → Option X
 at_end x [] = Some x
 at_end x (b ∷ text) = None
 
--- the circuit of what was read, with the symbols
-abbrev pub with_names : Counts → List Wire → List Gate → List ℕ → Option Circuit
-with_names c wires gates text =
-    and_then (names_read (codes "i") c.inputs 0 text) (λ i.
-    and_then (names_read (codes "o") c.outputs 0 i.1) (λ o.
-    at_end (record { inputs = i.0; outputs = named o.0 wires; gates = gates }) o.1))
+-- the names of the inputs and of the outputs, which are all that is left
+abbrev pub table_read : {X : Type 0} → (List ℕ → Option (X × List ℕ)) → Counts → List ℕ → Option (List X × List X)
+table_read name c text =
+    and_then (names_read name (codes "i") c.inputs 0 text) (λ i.
+    and_then (names_read name (codes "o") c.outputs 0 i.1) (λ o. at_end (i.0, o.0) o.1))
 
--- the circuit of a text in the ASCII format
-abbrev pub ascii_circuit : List ℕ → Option Circuit
-ascii_circuit text =
+-- what stands before the symbols: the counts, the wires of the outputs and the gates
+pub record Parts : Type 0 where
+  pub counts : Counts
+  pub wires : List Wire
+  pub gates : List Gate
+
+-- these parts, with the bytes that are left
+abbrev pub parts_before : Counts → List Wire → List Gate × List ℕ → Option (Parts × List ℕ)
+parts_before c wires g = Some (record { counts = c; wires = wires; gates = g.0 }, g.1)
+
+-- the parts of a text in the ASCII format
+abbrev pub ascii_parts : List ℕ → Option (Parts × List ℕ)
+ascii_parts text =
     and_then (word (codes "aag") text) (λ t.
     and_then (header_counts t) (λ c.
     and_then (inputs_read c.0.inputs 1 c.1) (λ t.
     and_then (outputs_read c.0.outputs t) (λ o.
-    and_then (gates_read c.0.gates (suc c.0.inputs) o.1) (λ g. with_names c.0 o.0 g.0 g.1)))))
+    and_then (gates_read c.0.gates (suc c.0.inputs) o.1) (parts_before c.0 o.0)))))
 
 -- a number in groups of seven bits, the lowest first: each byte but the last has 128 added
 abbrev pub delta : List ℕ → Option (ℕ × List ℕ)
@@ -132,10 +141,26 @@ deltas_read (suc k) n text =
     and_then (delta text) (λ l.
     and_then (delta l.1) (λ r. and_then (deltas_read k (suc n) r.1) (with_gate (2 * n - l.0) (2 * n - l.0 - r.0))))
 
--- the circuit of a text in the binary format
-abbrev pub binary_circuit : List ℕ → Option Circuit
-binary_circuit text =
+-- the parts of a text in the binary format
+abbrev pub binary_parts : List ℕ → Option (Parts × List ℕ)
+binary_parts text =
     and_then (word (codes "aig") text) (λ t.
     and_then (header_counts t) (λ c.
     and_then (outputs_read c.0.outputs c.1) (λ o.
-    and_then (deltas_read c.0.gates (suc c.0.inputs) o.1) (λ g. with_names c.0 o.0 g.0 g.1))))
+    and_then (deltas_read c.0.gates (suc c.0.inputs) o.1) (parts_before c.0 o.0))))
+
+-- the circuit of these parts and names
+abbrev pub circuit_of : Parts → List ℕ × List ℕ → Option Circuit
+circuit_of p names = Some (record { inputs = names.0; outputs = named names.1 p.wires; gates = p.gates })
+
+-- the circuit of what was read, with its symbols, whose names are numbers
+abbrev pub with_names : Parts × List ℕ → Option Circuit
+with_names p = and_then (table_read (number 10) p.0.counts p.1) (circuit_of p.0)
+
+-- the circuit of a text in the ASCII format
+abbrev pub ascii_circuit : List ℕ → Option Circuit
+ascii_circuit text = and_then (ascii_parts text) with_names
+
+-- the circuit of a text in the binary format
+abbrev pub binary_circuit : List ℕ → Option Circuit
+binary_circuit text = and_then (binary_parts text) with_names

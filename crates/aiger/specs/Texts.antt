@@ -40,23 +40,35 @@ abbrev pub gate_lines : ℕ → List Gate → List ℕ
 gate_lines n [] = []
 gate_lines n (g ∷ gates) = gate_line n g ++ gate_lines (suc n) gates
 
--- a symbol: a letter and a position, counted from 0, and a name
-abbrev pub symbol_line : List ℕ → ℕ → ℕ → List ℕ
-symbol_line letter n name = letter ++ (decimal n ++ ((32 ∷ decimal name) ++ (10 ∷ [])))
+-- what stands before a name: a letter, a position, counted from 0, and a blank
+abbrev pub place : List ℕ → ℕ → List ℕ
+place letter n = letter ++ (decimal n ++ (32 ∷ []))
+
+-- the symbol of a name
+abbrev pub symbol_line : List ℕ → ℕ → List ℕ → List ℕ
+symbol_line letter n name = place letter n ++ (name ++ (10 ∷ []))
 
 -- the symbols of names, the first of which has the position n
-abbrev pub symbol_lines : List ℕ → ℕ → List ℕ → List ℕ
+abbrev pub symbol_lines : List ℕ → ℕ → List (List ℕ) → List ℕ
 symbol_lines letter n [] = []
 symbol_lines letter n (name ∷ names) = symbol_line letter n name ++ symbol_lines letter (suc n) names
+
+-- the symbol table: what the inputs and the outputs are called, by their numbers
+abbrev pub symbol_table : (ℕ → List ℕ) → Circuit → List ℕ
+symbol_table name c = symbol_lines (codes "i") 0 (map name c.inputs) ++ symbol_lines (codes "o") 0 (map name (map (λ o. o.0) c.outputs))
+
+-- what stands after the gates: each number is its own name
+abbrev pub symbols : Circuit → List ℕ
+symbols c = symbol_table decimal c
 
 -- what stands before the gates
 abbrev pub beginning : Circuit → List ℕ
 beginning c = header c ++ (input_lines 1 c.inputs ++ flat_map output_line c.outputs)
 
--- what stands after the gates: the names of the inputs and of the outputs
-abbrev pub symbols : Circuit → List ℕ
-symbols c = symbol_lines (codes "i") 0 c.inputs ++ symbol_lines (codes "o") 0 (map (λ o. o.0) c.outputs)
+-- what stands before the symbols
+abbrev pub unnamed_ascii : Circuit → List ℕ
+unnamed_ascii c = beginning c ++ gate_lines (first_gate c) c.gates
 
 -- the text of a circuit
 abbrev pub ascii_text : Circuit → List ℕ
-ascii_text c = beginning c ++ (gate_lines (first_gate c) c.gates ++ symbols c)
+ascii_text c = unnamed_ascii c ++ symbols c

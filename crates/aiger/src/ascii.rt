@@ -1,13 +1,13 @@
 //! The text of a circuit in AIGER's ASCII format.
 
-ghost use Rattle.std.specs.Prelude.{◌≡◌, ◌<◌, ◌++◌, ◌+◌, ◌^◌, codes, length, map, Some, slice_get};
+ghost use Rattle.std.specs.Prelude.{◌≡◌, ◌<◌, ◌+◌, ◌++◌, ◌^◌, length, Some, slice_get};
 ghost use Rattle.qbf_text.specs.Written.{IsPut};
 ghost use Rattle.std.specs.List.{flat_map};
 ghost use Rattle.aiger.specs.Texts.{ascii_text, beginning, counts, gate_line, gate_lines};
-ghost use Rattle.aiger.specs.Texts.{input_line};
-ghost use Rattle.aiger.specs.Texts.{input_lines, output_line, symbol_line, symbol_lines};
+ghost use Rattle.aiger.specs.Texts.{input_line, input_lines, output_line, unnamed_ascii};
 
 use crate::circuit::{Circuit, Gate, Output};
+use crate::symbols::{Numbers, put_symbols};
 use dimacs_syntax::{Bare, Bytes, Put};
 use qbf_text::{Sink, SinkFault};
 
@@ -72,81 +72,6 @@ fn put_gates<K: Sink>(sink: &mut K, first: u64, gates: &[Gate]) -> Result<(), Si
     Ok(())
 }
 
-/// Sends the symbol of an input or an output.
-fn put_symbol<K: Sink>(sink: &mut K, letter: &[u8], n: u64, name: u32) -> Result<(), SinkFault>
-    ensures { IsPut K.written K.failures K.failed_last
-        sink.old sink.new (symbol_line letter.now n name) result }
-{
-    (
-        Bytes(letter),
-        (Bare(false, n), (u64::from(name), Bytes(b"\n"))),
-    )
-        .put(sink)
-}
-
-/// Sends the symbol of the input at a position.
-fn put_input_symbol<K: Sink>(sink: &mut K, n: u64, name: u32) -> Result<(), SinkFault>
-    ensures { IsPut K.written K.failures K.failed_last
-        sink.old sink.new (symbol_line (codes "i") n name) result }
-{
-    put_symbol(sink, b"i", n, name)
-}
-
-/// Sends the symbol of the output at a position.
-fn put_output_symbol<K: Sink>(sink: &mut K, n: u64, name: u32) -> Result<(), SinkFault>
-    ensures { IsPut K.written K.failures K.failed_last
-        sink.old sink.new (symbol_line (codes "o") n name) result }
-{
-    put_symbol(sink, b"o", n, name)
-}
-
-/// The name of the input at a position.
-fn name_at(names: &[u32], i: usize) -> u32
-    requires { i < length names.now }
-    ensures { slice_get names.now i ≡ Some result }
-{
-    names[i]
-}
-
-/// The symbols of the inputs.
-#[derive(Clone, Copy)]
-struct InputSymbols<'a>(&'a [u32]);
-
-impl<'a> Put for InputSymbols<'a> {
-    ghost text = { λ s. symbol_lines (codes "i") 0 s.0.now };
-
-    fn put<K: Sink>(&self, sink: &mut K) -> Result<(), SinkFault> {
-        for i in 0..self.0.len() {
-            put_input_symbol(sink, i as u64, name_at(self.0, i))?;
-        }
-        Ok(())
-    }
-}
-
-/// The name of the output at a position.
-fn output_name(outputs: &[Output], i: usize) -> u32
-    requires { i < length outputs.now }
-    ensures { slice_get (map (λ o. o.0) outputs.now) i ≡ Some result }
-{
-    let output = outputs[i];
-    output.name
-}
-
-/// The symbols of the outputs.
-#[derive(Clone, Copy)]
-struct OutputSymbols<'a>(&'a [Output]);
-
-impl<'a> Put for OutputSymbols<'a> {
-    ghost text = { λ s. symbol_lines (codes "o") 0 (map (λ o. o.0) s.0.now) };
-
-    fn put<K: Sink>(&self, sink: &mut K) -> Result<(), SinkFault> {
-        for i in 0..self.0.len() {
-            put_output_symbol(sink, i as u64, output_name(self.0, i))?;
-        }
-        Ok(())
-    }
-}
-
 /// Sends the header of a circuit's text, which begins with the word of a format.
 pub(crate) fn put_header<K: Sink>(
     format: &[u8],
@@ -171,19 +96,6 @@ fn put_ends<K: Sink>(inputs: &[u32], outputs: &[Output], sink: &mut K) -> Result
     (InputLines(inputs), outputs).put(sink)
 }
 
-/// Sends the names of inputs and outputs.
-pub(crate) fn put_names<K: Sink>(
-    inputs: &[u32],
-    outputs: &[Output],
-    sink: &mut K,
-) -> Result<(), SinkFault>
-    ensures { IsPut K.written K.failures K.failed_last sink.old sink.new
-        (symbol_lines (codes "i") 0 inputs.now
-        ++ symbol_lines (codes "o") 0 (map (λ o. o.0) outputs.now)) result }
-{
-    (InputSymbols(inputs), OutputSymbols(outputs)).put(sink)
-}
-
 /// Sends what stands before the gates.
 fn put_beginning<K: Sink>(circuit: &Circuit, sink: &mut K) -> Result<(), SinkFault>
     ensures { IsPut K.written K.failures K.failed_last sink.old sink.new
@@ -193,20 +105,14 @@ fn put_beginning<K: Sink>(circuit: &Circuit, sink: &mut K) -> Result<(), SinkFau
     put_ends(&circuit.inputs, &circuit.outputs, sink)
 }
 
-/// Sends the gates, and what stands after them.
-fn put_rest<K: Sink>(
-    inputs: &[u32],
-    outputs: &[Output],
-    gates: &[Gate],
-    sink: &mut K,
-) -> Result<(), SinkFault>
+/// Sends what stands before the symbols.
+pub(crate) fn put_unnamed_ascii<K: Sink>(circuit: &Circuit, sink: &mut K) -> Result<(), SinkFault>
     ensures { IsPut K.written K.failures K.failed_last sink.old sink.new
-        (gate_lines (length inputs.now + 1) gates.now
-        ++ (symbol_lines (codes "i") 0 inputs.now
-        ++ symbol_lines (codes "o") 0 (map (λ o. o.0) outputs.now))) result }
+        (unnamed_ascii circuit.now) result }
 {
-    put_gates(sink, inputs.len() as u64 + 1, gates)?;
-    put_names(inputs, outputs, sink)
+    put_beginning(circuit, sink)?;
+    let inputs: &[u32] = &circuit.inputs;
+    put_gates(sink, inputs.len() as u64 + 1, &circuit.gates)
 }
 
 /// Writes a circuit in AIGER's ASCII format (Biere 2007; version 1.9: Biere, Heljanko, Wieringa
@@ -218,6 +124,6 @@ pub fn put_ascii<K: Sink>(circuit: &Circuit, sink: &mut K) -> Result<(), SinkFau
     ensures { IsPut K.written K.failures K.failed_last sink.old sink.new
         (ascii_text circuit.now) result }
 {
-    put_beginning(circuit, sink)?;
-    put_rest(&circuit.inputs, &circuit.outputs, &circuit.gates, sink)
+    put_unnamed_ascii(circuit, sink)?;
+    put_symbols(&Numbers, circuit, sink)
 }

@@ -1,13 +1,13 @@
 //! The text of a circuit in AIGER's binary format.
 
-ghost use Rattle.std.specs.Prelude.{◌≡◌, ◌<◌, ◌++◌, ◌+◌, ◌-◌, ◌*◌, ◌^◌, codes, length, map};
+ghost use Rattle.std.specs.Prelude.{◌≡◌, ◌<◌, ◌+◌, ◌++◌, ◌-◌, ◌*◌, ◌^◌};
 ghost use Rattle.qbf_text.specs.Written.{IsPut};
 ghost use Rattle.aiger.specs.Binary.{binary_beginning, binary_text, gate_bytes, gates_bytes};
-ghost use Rattle.aiger.specs.Binary.{greater, lesser, number_bytes};
-ghost use Rattle.aiger.specs.Texts.{symbol_lines};
+ghost use Rattle.aiger.specs.Binary.{greater, lesser, number_bytes, unnamed_binary};
 
-use crate::ascii::{gate_at, put_header, put_names};
+use crate::ascii::{gate_at, put_header};
 use crate::circuit::{Circuit, Gate, Output};
+use crate::symbols::{Numbers, put_symbols};
 use dimacs_syntax::Put;
 use qbf_text::{Sink, SinkFault, put_byte};
 
@@ -101,20 +101,14 @@ fn put_beginning<K: Sink>(circuit: &Circuit, sink: &mut K) -> Result<(), SinkFau
     outputs.put(sink)
 }
 
-/// Sends the gates, and what stands after them.
-fn put_rest<K: Sink>(
-    inputs: &[u32],
-    outputs: &[Output],
-    gates: &[Gate],
-    sink: &mut K,
-) -> Result<(), SinkFault>
+/// Sends what stands before the symbols.
+pub(crate) fn put_unnamed_binary<K: Sink>(circuit: &Circuit, sink: &mut K) -> Result<(), SinkFault>
     ensures { IsPut K.written K.failures K.failed_last sink.old sink.new
-        (gates_bytes (length inputs.now + 1) gates.now
-        ++ (symbol_lines (codes "i") 0 inputs.now
-        ++ symbol_lines (codes "o") 0 (map (λ o. o.0) outputs.now))) result }
+        (unnamed_binary circuit.now) result }
 {
-    put_gates(sink, inputs.len() as u64 + 1, gates)?;
-    put_names(inputs, outputs, sink)
+    put_beginning(circuit, sink)?;
+    let inputs: &[u32] = &circuit.inputs;
+    put_gates(sink, inputs.len() as u64 + 1, &circuit.gates)
 }
 
 /// Writes a circuit in AIGER's binary format (Biere 2007; version 1.9: Biere, Heljanko, Wieringa
@@ -127,6 +121,6 @@ pub fn put_binary<K: Sink>(circuit: &Circuit, sink: &mut K) -> Result<(), SinkFa
     ensures { IsPut K.written K.failures K.failed_last sink.old sink.new
         (binary_text circuit.now) result }
 {
-    put_beginning(circuit, sink)?;
-    put_rest(&circuit.inputs, &circuit.outputs, &circuit.gates, sink)
+    put_unnamed_binary(circuit, sink)?;
+    put_symbols(&Numbers, circuit, sink)
 }

@@ -17,7 +17,7 @@ use Rattle.qcir.specs.declared.keyword.Keyword.{Keyword}
 use Rattle.qcir.specs.declared.keyword.Keyword.TheVariants as words
 use Rattle.qcir.specs.Names.{Name, literal_at, literal_named, with_name}
 use Rattle.qcir.specs.Words.{keyword_of}
-use Rattle.qcir.specs.Reading.{AtPrefix, InGates, InPrefix, PartsSoFar, Question, State, and_literal, bound, gate, gate_line, gates_row, gates_state}
+use Rattle.qcir.specs.Reading.{AtPrefix, InGates, InPrefix, PartsSoFar, State, and_literal, bound, gate, gate_line, gates_row, gates_state}
 use Rattle.qcir.specs.Reading.{inputs, is_header, kind_of, literals, members, on_line, output_row, prefix_line, prefix_row, read_gates, read_lines}
 use Rattle.qcir.specs.Reading.{read_whole, result_at, row, set_row, with_gate, with_output}
 

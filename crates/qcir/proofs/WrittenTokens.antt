@@ -188,7 +188,7 @@ bare_says (GateOf w kind ms) named =
 
 -- ---- lines have no line end within
 
-abbrev IsInside : ℕ → Type 0
+abbrev pub IsInside : ℕ → Type 0
 IsInside b = is_line_end b ≡ false
 
 word_inside : (b : ℕ) → is_word_byte b ≡ true → IsInside b
@@ -202,7 +202,7 @@ name_inside : (w : List ℕ) → AllByRecursion (λ c. is_word_byte c ≡ true) 
 name_inside [] all = tt
 name_inside (b ∷ w) all = (word_inside b all.0, name_inside w all.1)
 
-whole_inside : (w : Name) → IsName w → AllByRecursion IsInside w
+pub whole_inside : (w : Name) → IsName w → AllByRecursion IsInside w
 whole_inside [] name = absurd name
 whole_inside (b ∷ w) name = name_inside (b ∷ w) name
 
@@ -245,7 +245,7 @@ bare_inside (GateOf w kind ms) named =
 
 -- ---- the lines of a canonical text
 
-line_before : (line rest : List ℕ) → AllByRecursion IsInside line
+pub line_before : (line rest : List ℕ) → AllByRecursion IsInside line
     → slice_split is_line_end (line ++ 10 ∷ rest) ≡ line ∷ slice_split is_line_end rest
 line_before [] rest inside = slice_split-cons_yes is_line_end 10 rest refl
 line_before (b ∷ line) rest inside =

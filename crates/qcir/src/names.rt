@@ -84,14 +84,21 @@ impl<'a> Names<'a> {
         }
     }
 
+    /// The name of the variable or the gate with a number, or no bytes if it is not given.
+    pub(crate) fn name_numbered(&self, number: u32) -> &'a [u8]
+        ensures { result.now ≡ name_of self.now number }
+    {
+        match self.set.get_index((number as usize).saturating_sub(1)) {
+            Some(name) => *name,
+            None => b"",
+        }
+    }
+
     /// The name of a variable or a gate, or no bytes if it is not given.
     pub(crate) fn name_or_empty(&self, var: Var) -> &'a [u8]
         ensures { result.now ≡ name_of self.now var }
     {
-        match self.name(var) {
-            Some(name) => name,
-            None => b"",
-        }
+        self.name_numbered(var.number())
     }
 
     /// Gives a name, which is numbered after the others.

@@ -4,7 +4,7 @@ ghost use Rattle.std.specs.Prelude.{◌≡◌, length, count_by};
 ghost use Rattle.std.specs.Option.{option_map};
 ghost use Rattle.qbf_core.specs.Blocks.{pairs};
 ghost use Rattle.qcir.specs.Names.{is_existential};
-ghost use Rattle.qcir.specs.Texts.{name_at};
+ghost use Rattle.qcir.specs.Texts.{name_at, name_of};
 
 use crate::names::Names;
 use qbf_core::{Prefix, Quantifier, Var};
@@ -79,6 +79,14 @@ impl<'a> Question<'a> {
         ensures { option_map (λ n. n.now) result ≡ name_at self.now.names var }
     {
         self.names.name(var)
+    }
+
+    /// The name of the variable or the gate with a number, counted from 1, or no bytes if the
+    /// formula has none of this number.
+    pub fn name_numbered(&self, number: u32) -> &[u8]
+        ensures { result.now ≡ name_of self.now.names number }
+    {
+        self.names.name_numbered(number)
     }
 
     /// The number of variables.

@@ -1,4 +1,4 @@
-"""What each line of the program points to, and what you can do. A part of tools/explain; docs/REFUSED.md has these tables too.
+"""What each line of the program points to, and what you can do. A part of tools/explain; docs/REFUSED.md has the table of the faults too.
 
 A row of ROWS has the name of the fault, a word that tools/explain chooses the row by if a fault has several, what was found, and what
 to do. A row of KINDS has a word for a kind of file, what such a file is, and what to do. N stands for a number that is put in.
@@ -11,7 +11,7 @@ from qrptools.command import as_called
 
 FEW_ZEROS = "a line has a 0 too few or too many"
 CORRECT_ZEROS = "correct the zeros of that line: a set has one, at its end, and a step two, after its literals and at its end"
-OTHER_ORDER = "the lines are in another order than the solver wrote them, as after `sort`: give the trace as it was written, or have it written again"
+OTHER_ORDER = "the lines are in another order, as after `sort`: give the trace as the solver wrote it"
 ROWS: list[tuple[str, Optional[str], str, str]] = [
     ("F2", None, "the header is wrong", "give a formula in QDIMACS, which begins with `p cnf VARIABLES CLAUSES`"),
     ("F3", None, "a word that is not allowed there", "take the word out, or give a formula in QDIMACS"),

@@ -8,7 +8,7 @@ from typing import NamedTuple, Optional
 
 from qrptools.command import called_as, finding, read_file, temporary_folder, unusable, writing
 from qrptools.names import Names
-from qrptools.program import GATES, keep, run_program, why_not
+from qrptools.program import GATES, STRATEGY, keep, run_program, why_not
 from qrptools.questions.reader import Gate, Question, QuestionFault, is_question, read_question
 
 HEAD = 64  # bytes of a file in which it is seen that it is a formula of gates
@@ -23,6 +23,11 @@ class Asked(NamedTuple):
     clauses: str
     names: Names
     question: Optional[Question]
+
+    @property
+    def strategist(self) -> str:
+        """The program that makes the winner's circuit: its symbols are numbers, or the names of the formula of gates."""
+        return GATES if self.question else STRATEGY
 
     def refuse_unverified(self, trace: str, flags: list[str]) -> None:
         """Ends the command unless the proof is one of the formula of gates, if there is one."""

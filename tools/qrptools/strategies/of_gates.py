@@ -1,8 +1,8 @@
-"""A circuit for the variables of a formula of gates, as one for all variables of its clauses. A part of tools/explain-strategy, tools/play and
-tools/solve.
+"""A circuit for the variables of a formula of gates, as one for all variables of its clauses. A part of tools/explain-strategy and tools/play.
 
-Nobody chooses the values of gates, so a circuit that wins a formula of gates has no outputs or inputs for them. In the clauses they are variables
-of the existential player: outputs that follow from the others if this player wins, and else inputs that no output depends on.
+Nobody chooses the values of gates, so a circuit that wins a formula of gates, as qrp_gates writes it, has no outputs or inputs for them. In the
+clauses they are variables of the existential player: outputs that follow from the others if this player wins, and else inputs that no output
+depends on.
 """
 
 from collections.abc import Collection
@@ -15,7 +15,7 @@ from qrptools.strategies.strategy import Files, Strategy, strategy_of
 
 def strategy_for(given: Asked, files: Files, flags: list[str], folder: str) -> tuple[Formula, Strategy]:
     """The formula in clauses and the strategy of some files, for all of its variables."""
-    formula, strategy = strategy_of(files, flags, given.names, folder)
+    formula, strategy = strategy_of(given, files, flags, folder)
     question = given.question
     if not question or not question.gates or set(question.gates) <= {*strategy.outputs, *strategy.inputs.values()}:
         return formula, strategy

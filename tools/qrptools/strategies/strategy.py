@@ -12,6 +12,7 @@ from qrptools.command import called_as, finding, read_file
 from qrptools.formula import ADJECTIVES, EXISTS, FOR_ALL, Formula
 from qrptools.names import Names
 from qrptools.program import circuit_of, keep
+from qrptools.questions.files import Asked, QuestionNames
 from qrptools.words import Fault
 
 OTHER = {EXISTS: FOR_ALL, FOR_ALL: EXISTS}
@@ -55,14 +56,14 @@ class Strategy(NamedTuple):
         return {variable: value(literal) for variable, literal in self.outputs.items()}
 
 
-def strategy_of(files: Files, flags: list[str], names: Names, folder: str) -> tuple[Formula, Strategy]:
-    """The formula and the strategy of some files. One that qrp_strategy makes has numbers as symbols, and the formula was checked by it."""
+def strategy_of(given: Asked, files: Files, flags: list[str], folder: str) -> tuple[Formula, Strategy]:
+    """The formula in clauses and the strategy of some files. The program that makes one has checked the formula."""
     if files.circuit is not None:
         formula = checked_formula(files.formula)
-        return formula, read_strategy(keep(files.circuit, folder), formula, names)
-    made = circuit_of(files.formula, files.trace, flags, folder)
+        return formula, read_strategy(keep(files.circuit, folder), formula, given.names)
+    made = circuit_of(given.path, files.trace, flags, folder, given.strategist)
     formula = Formula(read_file(files.formula))
-    return formula, read_strategy(made, formula, Names())
+    return formula, read_strategy(made, formula, QuestionNames(given.question, None) if given.question else Names())
 
 
 def checked_formula(path: str) -> Formula:

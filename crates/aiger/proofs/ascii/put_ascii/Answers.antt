@@ -1,19 +1,9 @@
-use Rattle.qbf_core.proofs.Cited.{◌∙◌, ap, subst}
+use Rattle.qbf_core.proofs.Cited.{rules}
 use Rattle.qbf_text.proofs.SentParts.{part_fails, part_then}
-use Rattle.qbf_text.specs.Written.{IsPut}
-use Rattle.aiger.specs.Circuits.{Circuit}
-use Rattle.aiger.proofs.WrittenLines.{rest_is}
 use Rattle.aiger.proofs.ascii.put_ascii.Goals as goal
 
-pub returns-in_err-put_beginning : goal.returns-in_err-put_beginning
-returns-in_err-put_beginning g c = part_fails _ _ c.from_residual.ensures.1 c.in_err-put_beginning.ensures
+pub returns-in_err-put_unnamed_ascii : goal.returns-in_err-put_unnamed_ascii
+returns-in_err-put_unnamed_ascii g c = part_fails _ _ c.from_residual.ensures.1 c.in_err-put_unnamed_ascii.ensures
 
 pub returns : goal.returns
-returns g c =
-    part_then c.in_ok-put_beginning.ensures
-    (subst (λ t. IsPut g.K.Sink.written g.K.Sink.failures g.K.Sink.failed_last c.put_beginning.new.sink c.put_rest.new.sink t
-    c.put_rest.result)
-    (rest_is c.args.circuit.now c.deref.result.now c.deref-2.result.now c.deref-3.result.now
-    (c.deref.ensures.value ∙ ap (λ (k : Circuit). k.inputs) c.circuit.view_is) (c.deref-2.ensures.value
-    ∙ ap (λ (k : Circuit). k.outputs) c.circuit.view_is) (c.deref-3.ensures.value ∙ ap (λ (k : Circuit). k.gates) c.circuit.view_is))
-    c.put_rest.ensures)
+returns g c = part_then c.in_ok-put_unnamed_ascii.ensures (search rules)

@@ -1,0 +1,3 @@
+mod WordNames
+mod ReadNames
+mod TableLines
