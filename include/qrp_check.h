@@ -10,6 +10,9 @@
  *     qrp_strategy writes a circuit only if the trace is verified; each run of the circuit wins for the winner of the formula, and no
  *     output depends on an input of its own block or of a later one.
  *
+ *     qrp_gates_verify and qrp_gates_strategy keep the same of a formula of gates, whose text is in QCIR-14, and of a trace that proves
+ *     its result of the clauses of that formula; qrp_gates_clauses writes these clauses.
+ *
  * The proof relies on what this page asks of the caller, on the toolchain that proved and built the library, on the C compiler, `ar`,
  * `objcopy` and the linker that packed it, and on the C library: on its malloc, realloc and free, and on memcpy, memmove and
  * memset. Link with -lqrp, or with libqrp.a; nothing else is needed. The manual page is qrp_check(3).
@@ -63,15 +66,16 @@ enum qrp_status {
     QRP_VERIFIED = 0,      /* the trace proves its result, and `truth` is that of the formula */
     QRP_PROOF_REFUSED = 1, /* both texts are read, and the trace does not prove its result */
     QRP_TEXT_REFUSED = 2,  /* the text of the formula or of the trace is refused */
-    QRP_NO_MEMORY = 4      /* out of memory: nothing is known */
+    QRP_NO_MEMORY = 4      /* out of memory: nothing is known; or, with Q12, a formula of gates has too many clauses */
 };
 
 /* What was found. It needs no value before a call, which writes each field. A struct of zeros is not a verdict: its letter is not 'V'. */
 struct qrp_verdict {
-    uint64_t position;   /* for C6 the number of the step, for C1, C2 and C3 the variable, for F and P the line; else 0 */
+    uint64_t position;   /* for C6 the number of the step, for C1, C2 and C3 the variable, for F, P and Q the line; else 0 */
     uint8_t status;      /* one of enum qrp_status */
     uint8_t truth;       /* 1 if the formula was verified to be true, else 0 */
-    uint8_t letter;      /* 'V' if it was verified, or of the fault: 'F' of the formula's text, 'P' of the trace's, 'C' of the check */
+    uint8_t letter;      /* 'V' if it was verified, or of the fault: 'F' of the formula's text, 'P' of the trace's, 'C' of the check, and
+                            'Q' of a formula of gates */
     uint8_t number;      /* of the fault, for example 4 for C4; 0 if it was verified */
     uint8_t rule;        /* for C6 the number of the step's fault, for example 7 for S7; else 0 */
     uint8_t reserved[3]; /* 0 */
@@ -134,6 +138,24 @@ size_t qrp_core(const void *formula, size_t formula_length, const void *trace, s
  *   formula_length + trace_length has been enough for every solver's trace that was tried, but not for each formula with many variables. */
 size_t qrp_strategy(const void *formula, size_t formula_length, const void *trace, size_t trace_length, bool any_pivot, bool binary,
                     char *buffer, size_t room, struct qrp_verdict *out) QRP_NONNULL(9);
+
+/* Formulas of gates, in QCIR-14, as the program `qrp_gates` takes them. A trace is one of the clauses that qrp_gates_clauses writes. A fault of
+ * the formula's text is Q2 to Q11; Q12, with the status QRP_NO_MEMORY, says that it has more than the 2147483647 clauses that QDIMACS can
+ * count. */
+
+/* Checks the trace against the clauses of the formula of gates, as `qrp_gates check` does, and else does as qrp_verify. */
+int32_t qrp_gates_verify(const void *formula, size_t formula_length, const void *trace, size_t trace_length, bool any_pivot,
+                         struct qrp_verdict *out) QRP_NONNULL(6);
+
+/* Writes the clauses of the formula of gates in canonical form, as `qrp_gates clauses` prints them, and zeros to *out, which are not a
+ * verdict. If the formula is refused, its clauses are too many or there is no memory, *out has the fault, and the text is empty, and its
+ * length 0. */
+size_t qrp_gates_clauses(const void *formula, size_t formula_length, char *buffer, size_t room, struct qrp_verdict *out) QRP_NONNULL(5);
+
+/* Checks as qrp_gates_verify does and writes the same to *out, and else does as qrp_strategy, with the circuit that `qrp_gates strategy`
+ * prints: its inputs and outputs are bound variables of the formula of gates alone. */
+size_t qrp_gates_strategy(const void *formula, size_t formula_length, const void *trace, size_t trace_length, bool any_pivot, bool binary,
+                          char *buffer, size_t room, struct qrp_verdict *out) QRP_NONNULL(9);
 
 /* A formula and its proof that are handed over piece by piece, as a solver makes them, in place of two texts. The struct is the caller's, and
  * all of it is zero before the first call; from then on the library alone writes to it. It may be moved, but of two copies only one is used

@@ -33,7 +33,18 @@ output is variable 2, and it has the value of the input, which is variable 1:
     >>> qrp_check.strategy(formula, trace)
     b'aag 1 1 0 1 0\n2\n2\ni0 1\no0 2\n'
 
-`verify_files`, `trim_files`, `core_files` and `strategy_files` take names of files. A file of up to 1 GB is read, so another process may
+A formula of gates, in QCIR-14, has calls of its own. A trace of it is one of the clauses that `gates_clauses` gives:
+
+    >>> gates = b"#QCIR-14\nforall(a)\nexists(b)\noutput(g)\ng = xor(a, b)\n"
+    >>> trace = b"p qrp 3 5\n1 1 -2 3 0 0\n2 1 0 1 0\n3 -1 2 3 0 0\n4 -1 0 3 0\n5 0 2 4 0\nr sat\n"
+    >>> str(qrp_check.gates_verify(gates, trace))
+    'VERIFIED true'
+    >>> qrp_check.gates_clauses(gates)
+    b'p cnf 3 5\na 1 0\ne 2 3 0\n-3 1 2 0\n-3 -1 -2 0\n3 -1 2 0\n3 1 -2 0\n3 0\n'
+    >>> qrp_check.gates_strategy(gates, trace)
+    b'aag 1 1 0 1 0\n2\n3\ni0 1\no0 2\n'
+
+`verify_files`, `trim_files`, `core_files`, `strategy_files`, `gates_verify_files` and `gates_strategy_files` take names of files. A file of up to 1 GB is read, so another process may
 write or cut it meanwhile. A larger one is mapped: if it is cut meanwhile, the system ends this process (SIGBUS).
 
 `python -m qrp_check [--qu] FORMULA TRACE` prints the line of 'qrp_cmd check' and ends with its status.
@@ -63,13 +74,14 @@ import typing
 import warnings
 
 __all__ = [
-    *("PieceRefused", "Proof", "Refused", "Verdict", "core", "core_files", "strategy", "strategy_files", "trim", "trim_files"),
-    *("verify", "verify_files"),
+    *("PieceRefused", "Proof", "Refused", "Verdict", "core", "core_files", "gates_clauses", "gates_strategy", "gates_strategy_files"),
+    *("gates_verify", "gates_verify_files", "strategy", "strategy_files", "trim", "trim_files", "verify", "verify_files"),
 ]
 
 _LINE_ROOM = 48  # QRP_LINE_ROOM
 _FAULT_ROOM = 128  # QRP_FAULT_ROOM
 _NO_MEMORY = 4  # QRP_NO_MEMORY
+_TOO_MANY_CLAUSES = (ord("Q"), 12)  # the letter and the number of a verdict with QRP_NO_MEMORY
 _NO_PROOF = 11  # QRP_NO_PROOF
 _SOME = 1 << 16  # How much room the text of a proof gets at first; if it is not enough, the call is made again.
 _MORE = 32  # A canonical text is at most so much longer, since its header has the right numbers; if not, the call is made again.
@@ -213,6 +225,9 @@ def _load() -> ctypes.CDLL:
         ("qrp_core", ctypes.c_size_t, [*text, *text, ctypes.c_bool, *written, verdict]),
         ("qrp_strategy", ctypes.c_size_t, [*text, *text, ctypes.c_bool, ctypes.c_bool, *written, verdict]),
         ("qrp_format", ctypes.c_size_t, [*text, *written, verdict]),
+        ("qrp_gates_verify", ctypes.c_int32, [*text, *text, ctypes.c_bool, verdict]),
+        ("qrp_gates_clauses", ctypes.c_size_t, [*text, *written, verdict]),
+        ("qrp_gates_strategy", ctypes.c_size_t, [*text, *text, ctypes.c_bool, ctypes.c_bool, *written, verdict]),
         ("qrp_verdict_line", ctypes.c_size_t, [verdict, *written]),
         ("qrp_fault_text", ctypes.c_size_t, [verdict, *written]),
         ("qrp_proof_new", ctypes.c_int32, [proof]),
@@ -256,7 +271,7 @@ class _Lent:
 
     def __enter__(self) -> "tuple[object, int]":
         if isinstance(self._text, (str, os.PathLike)):
-            files = "the names of files to verify_files, trim_files, core_files or strategy_files"
+            files = "the names of files to verify_files, trim_files, core_files, strategy_files, gates_verify_files or gates_strategy_files"
             raise TypeError(f"the {self._name} is a {type(self._text).__name__}: pass its bytes (text.encode(), path.read_bytes()), or {files}")
         try:
             if _get_buffer is None:
@@ -307,8 +322,10 @@ def _written(call: "typing.Callable[..., int]", found: _Verdict, room: int) -> s
 
 
 def _verdict(found: _Verdict) -> Verdict:
-    """What a call wrote. Raises MemoryError."""
+    """What a call wrote. Raises MemoryError, or OverflowError if a formula of gates has too many clauses."""
     if found.status == _NO_MEMORY:
+        if (found.letter, found.number) == _TOO_MANY_CLAUSES:
+            raise OverflowError("the formula of gates has more clauses than the 2147483647 that QDIMACS can count")
         raise MemoryError("out of memory, so nothing is known: check again with more")
     line = _written(_library.qrp_verdict_line, found, _LINE_ROOM).rstrip("\n")
     if found.status == 0:
@@ -435,6 +452,57 @@ def format(formula: _Text) -> bytes:
             return int(_library.qrp_format(*lent, buffer, room, ctypes.byref(found)))
 
         return _text(call, found, lent[1] + _MORE)
+
+
+def gates_verify(formula: _Text, trace: _Text, *, any_pivot: bool = False) -> Verdict:
+    """Checks the trace against the clauses of the formula of gates, and else does as `verify`.
+
+    Raises OverflowError if there are more clauses than QDIMACS can count, and else as `verify` does.
+    """
+    _check_flags(any_pivot=any_pivot)
+    found = _Verdict()
+    with _Lent("formula", formula) as lent_formula, _Lent("trace", trace) as lent_trace:
+        _library.qrp_gates_verify(*lent_formula, *lent_trace, any_pivot, ctypes.byref(found))
+    return _verdict(found)
+
+
+def gates_verify_files(formula: _Path, trace: _Path, *, any_pivot: bool = False) -> Verdict:
+    """Checks as `gates_verify` does, with the files of these names. Raises as `gates_verify` and `verify_files` do."""
+    return _of_files(gates_verify, formula, trace, any_pivot=any_pivot)
+
+
+def gates_clauses(formula: _Text) -> bytes:
+    """The clauses of the formula of gates, as a formula in canonical form, of which a trace of it is a proof.
+
+    Raises Refused if it is no formula of gates, OverflowError if it has more clauses than QDIMACS can count, and else as `verify` does.
+    """
+    found = _Verdict()
+    with _Lent("formula", formula) as lent:
+
+        def call(buffer: "ctypes.Array[ctypes.c_char]", room: int) -> int:
+            return int(_library.qrp_gates_clauses(*lent, buffer, room, ctypes.byref(found)))
+
+        return _text(call, found, 4 * lent[1] + _MORE)
+
+
+def gates_strategy(formula: _Text, trace: _Text, *, any_pivot: bool = False, binary: bool = False) -> bytes:
+    """The whole strategy of the winner of the formula of gates as a circuit, and else as `strategy` does: of its bound variables alone.
+
+    Raises OverflowError if there are more clauses than QDIMACS can count, and else as `strategy` does.
+    """
+    _check_flags(any_pivot=any_pivot, binary=binary)
+    found = _Verdict()
+    with _Lent("formula", formula) as lent_formula, _Lent("trace", trace) as lent_trace:
+
+        def call(buffer: "ctypes.Array[ctypes.c_char]", room: int) -> int:
+            return int(_library.qrp_gates_strategy(*lent_formula, *lent_trace, any_pivot, binary, buffer, room, ctypes.byref(found)))
+
+        return _text(call, found, lent_formula[1] + lent_trace[1] + _MORE)
+
+
+def gates_strategy_files(formula: _Path, trace: _Path, *, any_pivot: bool = False, binary: bool = False) -> bytes:
+    """The circuit as `gates_strategy` gives it, with the files of these names. Raises as `gates_strategy` and `verify_files` do."""
+    return _of_files(gates_strategy, formula, trace, any_pivot=any_pivot, binary=binary)
 
 
 def _text(call: "typing.Callable[[ctypes.Array[ctypes.c_char], int], int]", found: _Verdict, room: int) -> bytes:

@@ -1,8 +1,8 @@
 -- How many gates the decisions of a proof need at most.
-use Rattle.trace_check.proofs.Cited.{arith, ◌≡◌, ◌≤◌, ◌+◌, ◌∙◌, ℕ, suc, List, [], ◌∷◌, ap, sym, length, take, subst}
-use Rattle.std.proofs.Common.{zero, map, ◌*◌, Bool, true, false, cond, Option, Some, slice_get}
+use Rattle.trace_check.proofs.Cited.{arith, ◌≡◌, ◌≤◌, ◌∙◌, ℕ, suc, List, [], ◌∷◌, ap, sym, length, take, subst}
+use Rattle.std.proofs.Common.{zero, ◌*◌, Bool, true, false, cond, Option, slice_get}
 use Rattle.std.proofs.lemmas.List.{length-map}
-use Rattle.qbf_core.specs.Blocks.{is_quantifier, pairs, variables}
+use Rattle.qbf_core.specs.Blocks.{is_quantifier, variables}
 use Rattle.qbf_core.specs.Literal.{Literal}
 use Rattle.qbf_core.specs.Qbf.{Qbf}
 use Rattle.qbf_core.specs.Rules.{Side, reduced_quantifier}

@@ -1,5 +1,5 @@
 -- Decisions that set nothing may be left out.
-use Rattle.trace_check.proofs.Cited.{arith, ◌≡◌, ◌≤◌, ◌∙◌, ℕ, suc, List, [], ◌∷◌, ap, sym, subst, inl, inr, refl, Literal, ◌∈◌}
+use Rattle.trace_check.proofs.Cited.{arith, ◌≡◌, ◌≤◌, ◌∙◌, ℕ, List, [], ◌∷◌, ap, sym, subst, inl, inr, refl, Literal, ◌∈◌}
 use Rattle.std.proofs.Common.{Bool, true, false, cond}
 use Rattle.qbf_core.specs.Blocks.{Block, pairs}
 use Rattle.qbf_core.specs.Qbf.{Qbf, IsClosed}

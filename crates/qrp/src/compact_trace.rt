@@ -83,7 +83,11 @@ impl KeptSteps for CompactTrace {
 
     #[inline(always)]
     #[tactic(auto, using(crate::proofs::FlatSteps::numbered_at))]
-    fn unpacked<'a>(&'a self, i: usize, buffer: &'a mut LitBuffer) -> Result<&'a [Lit], AllocError> {
+    fn unpacked<'a>(
+        &'a self,
+        i: usize,
+        buffer: &'a mut LitBuffer,
+    ) -> Result<&'a [Lit], AllocError> {
         self.parts.steps.lits.unpack(i, buffer)
     }
 

@@ -51,11 +51,7 @@ impl<A: StepLists> Parts<A> {
 /// # Errors
 /// Out of memory. All that is whole is unchanged then.
 #[inline(always)]
-fn close_step<A: StepLists>(
-    lists: &mut Lists,
-    steps: &mut A,
-    number: u64,
-) -> Result<(), AllocError>
+fn close_step<A: StepLists>(lists: &mut Lists, steps: &mut A, number: u64) -> Result<(), AllocError>
     requires { is_used number lists.old.index ≡ false }
     ensures closed { OnOk result
         (lists.new ≡ record lists.old { index = lists.old.index ++ number ∷ [] }) }

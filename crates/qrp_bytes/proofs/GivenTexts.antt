@@ -1,5 +1,5 @@
--- The numbers of the steps at some places, and the line of what was encoded.
-use Rattle.std.proofs.Common.{rules, Ok, Err, refl, ◌≡◌, Bool, Option, Some, ℕ, ◌+◌, ◌<◌, List, [], ◌∷◌, ◌++◌, length, take, get_or, ap, ◌∙◌, sym, Result}
+-- The numbers of the steps at some places, and a text that is returned with its truth or its fault.
+use Rattle.std.proofs.Common.{rules, Ok, Err, refl, ◌≡◌, Bool, ℕ, ◌+◌, ◌<◌, List, [], ◌∷◌, ◌++◌, length, take, get_or, ap, ◌∙◌, sym, Result}
 use Rattle.std.proofs.lemmas.List.{map-append}
 use Rattle.std.proofs.lemmas.Option.{slice_get-get_or}
 use Rattle.std.specs.List.{AllByRecursion}
@@ -10,13 +10,10 @@ use Rattle.qrp_rules.specs.declared.rules.Rules.{Rules}
 use Rattle.trace_check.proofs.StepsAt.{next_at}
 use Rattle.trace_check.specs.Proof.{is_sat}
 use Rattle.qrp_check.specs.declared.verdict.Fault.{Fault}
-use Rattle.trace_check.specs.declared.verified.Verified.{Verified}
-use Rattle.qrp_report.specs.declared.refusal.Refusal.{Refusal}
-use Rattle.qrp_report.specs.Lines.{refusal_line}
-use Rattle.qrp_report.specs.OfFaults.{IsOfFault, NamesVariable}
+use Rattle.qrp_report.specs.OfFaults.{NamesVariable}
 use Rattle.qrp_report.specs.Results.{IsTrimmed, IsTrimmedFrom}
 use Rattle.qrp_bytes.specs.declared.verdict.QrpVerdict.{QrpVerdict}
-use Rattle.qrp_bytes.specs.Encoding.{IsEncoded, encoded_truth, encoded_refusal, result_line}
+use Rattle.qrp_bytes.specs.Encoding.{encoded_truth}
 use Rattle.qrp_bytes.specs.Texts.{ProofReturns, encoded_trace, lent_bytes}
 
 -- the numbers so far, and that of the step at the next place
@@ -34,12 +31,6 @@ next_number steps places k n sofar within less value is =
     ∙ ap (λ m. numbers (steps_at steps (take k places)) ++ m ∷ []) (value step here)
     ∙ sym (map-append number_of (steps_at steps (take k places)) (step ∷ []))
     ∙ ap numbers (sym (next_at steps places k step less here))
-
--- the line of a refusal that a struct encodes is that of its result
-pub encoded_line : (outcome : Result Verified Fault) (v : QrpVerdict) (r : Refusal) (truth : Option Bool) → IsEncoded outcome v
-    → ((b : Bool) → v ≡ encoded_truth b → truth ≡ Some b) → ((b : Bool) → truth ≡ Some b → ⊥)
-    → ((s : Refusal) → IsOfFault s → v ≡ encoded_refusal s → Some r ≡ Some s) → refusal_line r ≡ result_line outcome
-encoded_line outcome v r truth h held none only = search rules
 
 -- a proof's truth is returned, and `Holds` is true of the trimmed trace
 pub proof_returned : {rules : Rules} {formula trace : List ℕ} {out : QrpVerdict} {Holds : Result Derivation Fault → Type 0} {t : Derivation}

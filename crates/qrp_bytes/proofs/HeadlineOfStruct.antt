@@ -12,17 +12,17 @@ use Rattle.qrp_bytes.specs.Encoding.{IsEncoded, encoding, encoded_fault, encoded
 use Rattle.qrp_bytes.specs.Verdicts.{StructHeadline}
 use Rattle.qrp_check.specs.Headline.{Headline}
 
-not_zero : (e : Fault) → (encoded_fault e).status ≡ 0 → ⊥
+pub not_zero : (e : Fault) → (encoded_fault e).status ≡ 0 → ⊥
 not_zero e is = search rules
 
-memory_is_four : (e : Fault) → IsOutOfMemory (Err e) → (encoded_fault e).status ≡ 4
+pub memory_is_four : (e : Fault) → IsOutOfMemory (Err e) → (encoded_fault e).status ≡ 4
 memory_is_four e is = search rules
 
 -- the number that stands for a truth
-abbrev truth_number : Bool → ℕ
+abbrev pub truth_number : Bool → ℕ
 truth_number b = if b then 1 else 0
 
-one_is_true : (b : Bool) (A : Type 0) → IsTrue b ↔ A → (truth_number b ≡ 1) ↔ A
+pub one_is_true : (b : Bool) (A : Type 0) → IsTrue b ↔ A → (truth_number b ≡ 1) ↔ A
 one_is_true b A same = search rules
 
 -- no device is read

@@ -1,15 +1,20 @@
 -- A line has room: it is shorter than what is kept in place.
 use Rattle.std.proofs.Common.{rules, ◌≡◌, ℕ, ◌+◌, ◌^◌, ◌<◌, ◌≤◌, Bool, List, [], ◌++◌, Option, Some, length, arith, if◌then◌else◌, IfErr}
-use Rattle.std.proofs.Common.{Result, decimal}
+use Rattle.std.proofs.Common.{Result, Ok, Err, decimal, refl}
 use Rattle.std.proofs.lemmas.Grind.{common_steps}
 use Rattle.std.proofs.lemmas.Fmt.{length-decimal-le}
 use Rattle.qbf_text.specs.Written.{IsPut}
-use Rattle.trace_check.specs.declared.verified.Verified.{Verified}
-use Rattle.qrp_check.specs.declared.verdict.Fault.{Fault}
+use Rattle.qcir.specs.declared.fault.QuestionFault.{QuestionFault}
 use Rattle.qrp_report.specs.declared.refusal.Refusal.{Refusal}
 use Rattle.qrp_report.specs.Lines.{numbers_line, text_line, check_line, refusal_line, verdict_line}
-use Rattle.qrp_report.specs.OfFaults.{IsOfFault, NamesVariable}
-use Rattle.qrp_bytes.specs.Encoding.{encoding, result_line}
+use Rattle.qrp_report.specs.OfFaults.{IsOfFault}
+use Rattle.qrp_report.specs.Refusals.{refusal_of}
+use Rattle.gate_verify.specs.declared.fault.Unverified.{Unverified}
+use Rattle.gate_verify.specs.declared.fault.Unverified.TheVariants as fault
+use Rattle.gate_report.specs.declared.refusal.GateRefusal.{GateRefusal}
+use Rattle.gate_report.specs.Lines.{gate_line}
+use Rattle.gate_report.specs.Refusals.{question_number, question_refusal, too_long}
+use Rattle.qrp_bytes.specs.Encoding.{NamesItsVariable, checked_encoding, checked_line}
 use Rattle.qrp_report.proofs.FaultsByNumbers.{HasNumbers, has_numbers}
 
 -- a line that is chosen is short, if each of them is
@@ -49,10 +54,19 @@ refusal_short r of small = let low = numbers_low r (has_numbers r of) in by_numb
 verdict_short : (b : Bool) → length (verdict_line b) < 47
 verdict_short b = search rules
 
+gates_short : (r : GateRefusal) → r.number ≤ 12 → r.line < 2 ^ 64 → length (gate_line r) < 47
+gates_short r low small = grind (arith, common_steps, chosen, numbers_short, few_digits, digits)
+
+question_low : (e : QuestionFault) → question_number e ≤ 12
+question_low e = search rules
+
 -- by the position that was encoded
-pub line_short : (outcome : Result Verified Fault) → IfErr outcome NamesVariable → (encoding outcome).position < 2 ^ 64
-    → length (result_line outcome) < 47
-line_short outcome names small = grind (arith, common_steps, verdict_short, refusal_short)
+pub checked_short : (outcome : Result Bool Unverified) → IfErr outcome NamesItsVariable → (checked_encoding outcome).position < 2 ^ 64
+    → length (checked_line outcome) < 47
+checked_short (Ok truth) names small = verdict_short truth
+checked_short (Err (fault.Question e n)) names small = gates_short (question_refusal e n) (question_low e) small
+checked_short (Err fault.TooLong) names small = gates_short too_long (omega arith) small
+checked_short (Err (fault.Proof e)) names small = refusal_short (refusal_of e) (e, names, refl) small
 
 full_is_long : (text sent unsent : List ℕ) → text ≡ sent ++ unsent → length sent ≡ 47 → length text < 47 → ⊥
 full_is_long text sent unsent parts full small = grind (arith, common_steps)

@@ -3,3 +3,4 @@ pub mod Texts
 pub mod Encoding
 pub mod Verdicts
 pub mod Strategies
+pub mod Gates

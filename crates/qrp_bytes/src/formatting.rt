@@ -15,7 +15,7 @@ use std::alloc::{AllocError, Global};
 ///
 /// # Errors
 /// If an allocation fails.
-fn formula_text(alloc: Global, formula: &Formula) -> Result<VecSink, AllocError>
+pub(crate) fn formula_text(alloc: Global, formula: &Formula) -> Result<VecSink, AllocError>
     ensures { IfOk result (λ s. s.bytes ≡ text formula.now) }
 {
     let mut sink = VecSink::new(alloc, 0)?;

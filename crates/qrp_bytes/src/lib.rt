@@ -2,12 +2,14 @@
 //! and to buffers.
 //!
 //! - Owns: the jobs of the program on bytes in memory, with results in a struct and in buffers.
-//! - Offers: `verify_bytes`, `trim_bytes`, `list_core`, `strategy_bytes`, `format_bytes`, `line_of`,
-//!   `meaning_of`, `put_text`, `put_numbers`.
+//! - Offers: `verify_bytes`, `trim_bytes`, `list_core`, `strategy_bytes`, `format_bytes`,
+//!   `gates_verify_bytes`, `gates_clauses_bytes`, `gates_strategy_bytes`, `line_of`, `meaning_of`,
+//!   `put_text`, `put_numbers`.
 //! - Proved: the headline over the bytes lent, each field of the struct, the line, the meaning, the
-//!   trimmed trace, the core, the winner's strategy and the canonical formula.
+//!   trimmed trace, the core, the winner's strategy and the canonical formula; and of a formula of
+//!   gates the same headline, its clauses and its winner's strategy.
 //! - Read first: `verify_bytes`, `trim_bytes`, `list_core`, `strategy_bytes`, `format_bytes`,
-//!   `line_of`.
+//!   `gates_verify_bytes`, `gates_clauses_bytes`, `gates_strategy_bytes`, `line_of`.
 //! - Tested only: by the tests of `qrp_c`.
 //! - Trusted: nothing.
 //! - On the map: the jobs on bytes in memory, | results in a struct and buffers.
@@ -15,6 +17,8 @@
 
 mod buffer;
 mod formatting;
+mod gate_verdict;
+mod gates;
 mod line;
 mod lines;
 mod proving;
@@ -23,6 +27,8 @@ mod verdict;
 
 pub use buffer::{put_numbers, put_text};
 pub use formatting::format_bytes;
+pub use gate_verdict::encode_unverified;
+pub use gates::{gates_clauses_bytes, gates_strategy_bytes, gates_verify_bytes};
 pub use line::Line;
 pub use lines::{line_of, meaning_of};
 pub use proving::{list_core, numbers_at, trim_bytes, verify_bytes};

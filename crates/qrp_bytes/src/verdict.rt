@@ -16,15 +16,17 @@ use qrp_report::{Refusal, is_of_fault};
 #[repr(C)]
 #[derive(Clone, Copy, Debug, PartialEq, Eq)]
 pub struct QrpVerdict {
-    /// The step (C6), the variable (C1, C2, C3) or the line (F, P), else 0.
+    /// The step (C6), the variable (C1, C2, C3) or the line (F, P, Q), else 0.
     pub position: u64,
-    /// 0: verified. 1: the proof is refused. 2: a text is refused. 4: an allocation failed.
+    /// 0: verified. 1: the proof is refused. 2: a text is refused. 4: an allocation failed, or a
+    /// formula of gates has too many clauses.
     pub status: u8,
     /// 1 if the formula was verified to be true, else 0.
     pub truth: u8,
-    /// `V` if the formula was verified, or the letter of the fault: `F`, `P` or `C`.
+    /// `V` if the formula was verified, or the letter of the fault: `F`, `P`, `C`, or `Q` of a
+    /// formula of gates.
     pub letter: u8,
-    /// The number of the fault, as 4 of C4, or 0.
+    /// The number of the fault, as 4 of C4, or 0; 12 of Q if there are too many clauses.
     pub number: u8,
     /// For C6 the number of the step's fault, as 7 of S7, else 0.
     pub rule: u8,

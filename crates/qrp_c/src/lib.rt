@@ -5,11 +5,12 @@
 //! - Offers: the functions of `include/qrp_check.h`.
 //! - Proved: the headline over the bytes lent, each field of the struct, the line, the meaning, the
 //!   trimmed trace, the core, the text of a circuit by which the winner wins and the canonical
-//!   formula in the buffer; of a proof that is handed over, what each call adds or refuses, the
-//!   verdict on what is held, and the texts of it in the buffer.
+//!   formula in the buffer; of a formula of gates the same headline, its clauses and its winner's
+//!   circuit; of a proof that is handed over, what each call adds or refuses, the verdict on what is
+//!   held, and the texts of it in the buffer.
 //! - Read first: `qrp_verify`, `qrp_verdict_line`, `qrp_fault_text`, `qrp_trim`, `qrp_core`,
-//!   `qrp_strategy`, `qrp_format`, `qrp_proof_check`, `qrp_proof_write_formula`,
-//!   `qrp_proof_write_trace`.
+//!   `qrp_strategy`, `qrp_format`, `qrp_gates_verify`, `qrp_gates_clauses`, `qrp_gates_strategy`,
+//!   `qrp_proof_check`, `qrp_proof_write_formula`, `qrp_proof_write_trace`.
 //! - Tested only: over the built library: rows and real traces by each call from C and from Python,
 //!   each allocation made to fail, texts at each alignment and buffers of each size between pages
 //!   that cannot be read, eight threads, structs that no call wrote, the structs, names and version
@@ -18,16 +19,20 @@
 //! - On the map: the library for C, C++ and Python.
 #![tactic(auto)]
 
+mod gates;
 mod proof;
 mod texts;
 
-ghost use Rattle.std.specs.Prelude.{◌≡◌, ◌≢◌, ◌≤◌, ◌+◌, [], pos, drop, Result};
+ghost use Rattle.std.specs.Prelude.{◌≡◌, ◌≢◌, ◌≤◌, ◌+◌, [], pos, drop, Bool, Result};
 ghost use Rattle.trace_check.specs.declared.verified.Verified.{Verified};
 ghost use Rattle.qrp_check.specs.declared.verdict.Fault.{Fault};
 ghost use Rattle.qrp_report.specs.Meanings.{fault_meaning};
 ghost use Rattle.qrp_report.specs.OfFaults.{NamesVariable};
+ghost use Rattle.gate_report.specs.Meanings.{unverified_meaning};
+ghost use Rattle.gate_verify.specs.declared.fault.Unverified.{Unverified};
 ghost use Rattle.qrp_bytes.specs.Buffers.{IsWritten};
 ghost use Rattle.qrp_bytes.specs.Encoding.{IsEncoded, EncodesSome, EncodesFault, encoded_fault, result_line};
+ghost use Rattle.qrp_bytes.specs.Encoding.{IsGatesEncoded, NamesItsVariable, checked_line, encoded_unverified};
 ghost use Rattle.qrp_bytes.specs.Strategies.{HoldsWinner, StrategyReturns};
 ghost use Rattle.qrp_bytes.specs.Texts.{TrimReturns, CoreReturns, FormatReturns};
 ghost use Rattle.qrp_bytes.specs.Verdicts.{StructHeadline, VerifyReturns};
@@ -74,6 +79,8 @@ pub extern "C" fn qrp_verify(
 pub extern "C" fn qrp_verdict_line(verdict: &QrpVerdict, buffer: &mut [u8]) -> usize
     ensures encoded { (outcome : Result Verified Fault) → IsEncoded outcome verdict.now
         → IsWritten (result_line outcome) buffer.old buffer.new result }
+    ensures gates { (outcome : Result Bool Unverified) → IsGatesEncoded outcome verdict.now
+        → IsWritten (checked_line outcome) buffer.old buffer.new result }
     ensures none { ¬ EncodesSome verdict.now → IsWritten [] buffer.old buffer.new result }
     ensures short { result ≤ 47 }
     // For any struct.
@@ -92,6 +99,8 @@ pub extern "C" fn qrp_verdict_line(verdict: &QrpVerdict, buffer: &mut [u8]) -> u
 pub extern "C" fn qrp_fault_text(verdict: &QrpVerdict, buffer: &mut [u8]) -> usize
     ensures encoded { (e : Fault) → NamesVariable e → verdict.now ≡ encoded_fault e
         → IsWritten (fault_meaning e) buffer.old buffer.new result }
+    ensures gates { (e : Unverified) → NamesItsVariable e → verdict.now ≡ encoded_unverified e
+        → IsWritten (unverified_meaning e) buffer.old buffer.new result }
     ensures none { ¬ EncodesFault verdict.now → IsWritten [] buffer.old buffer.new result }
     ensures short { result ≤ 127 }
     ensures kept { drop (1 + result) buffer.new ≡ drop (1 + result) buffer.old }

@@ -1,5 +1,5 @@
 -- Formulas with few variables have short derivations.
-use Rattle.trace_check.proofs.Cited.{◌≡◌, ℕ, zero, suc, ◌+◌, ◌≤◌, ◌⊎◌, List, [], ◌∷◌, inl, inr, refl, length, arith, pairs, Qbf, Side}
+use Rattle.trace_check.proofs.Cited.{◌≡◌, ℕ, zero, suc, ◌+◌, ◌≤◌, ◌⊎◌, List, [], ◌∷◌, inl, inr, refl, length, arith, pairs, Side}
 use Rattle.std.proofs.Common.{◌^◌, ◌*◌, cond, pow_mono, pow-suc, pow-add, mul-le-mul}
 use Rattle.std.proofs.lemmas.List.{length-map}
 use Rattle.qbf_core.proofs.PrefixLaws.{variables_few}
@@ -9,7 +9,7 @@ use Rattle.qbf_core.specs.Rules.{reduced_quantifier, deciding_quantifier}
 use Rattle.qbf_core.proofs.Game.{who}
 use Rattle.qbf_completeness.specs.Laws.{count_of}
 use Rattle.qbf_completeness.proofs.Players.{mine_is, theirs_is}
-use Rattle.qrp_completeness.specs.Laws.{IsSmall, FewVariablesAreSmall}
+use Rattle.qrp_completeness.specs.Laws.{FewVariablesAreSmall}
 
 -- each variable is of the reduced quantifier or of the deciding one
 count_both : (side : Side) (ps : List (Quantifier × ℕ))

@@ -1,5 +1,5 @@
 -- From a derivation of the empty set to a trace, its text, and its verdict.
-use Rattle.trace_check.proofs.Cited.{◌≡◌, ℕ, ◌+◌, ◌<◌, ◌≤◌, List, [], ◌∷◌, ◌++◌, inl, inr, refl, sym, subst, length, arith, Ok, Result, AllByRecursion, Literal, ◌∈◌, AreBound, bound_each, pairs, Qbf, IsClosed, Rules, Inference, IsGoal, Derivation, Outcome, at_place, slice_get_within}
+use Rattle.trace_check.proofs.Cited.{◌≡◌, ℕ, ◌+◌, ◌<◌, ◌≤◌, List, [], ◌∷◌, ◌++◌, inl, inr, refl, sym, subst, length, arith, Ok, Result, AllByRecursion, Literal, ◌∈◌, AreBound, bound_each, pairs, Qbf, Rules, Inference, IsGoal, Derivation, Outcome, at_place, slice_get_within}
 use Rattle.trace_check.specs.Proof.{side_of, Proves}
 use Rattle.std.proofs.Common.{◌^◌, length-append}
 use Rattle.qbf_core.specs.Blocks.{IsVariable, variables}

@@ -2,8 +2,8 @@
 use Rattle.std.proofs.Common.{arith, ◌≡◌, ◌∙◌, ◌⊎◌, ℕ, Bool, List, Option, Some, IfSome, inl, inr, refl, sym, subst, Result, Ok, Err, IfOk}
 use Rattle.std.proofs.lemmas.Grind.{common_steps}
 use Rattle.std.specs.Io.KnownBytes.{Appends}
-use Rattle.aiger.specs.Formats.{circuit_text}
 use Rattle.circuit_cli.specs.Output.{no_circuit}
+use Rattle.circuit_names.specs.Symbols.{named_text}
 use Rattle.qbf_core.specs.Qbf.{Qbf}
 use Rattle.qbf_text.specs.declared.sink.Sink as sinks
 use Rattle.qcir.specs.Reading.{Question, read_gates}
@@ -27,7 +27,9 @@ use Rattle.gate_strategy.specs.Strategies.{IsOfVerdict, IsOfWinner}
 use Rattle.gate_strategy.specs.declared.fault.GateStrategyFault.{GateStrategyFault}
 use Rattle.gate_strategy.specs.declared.fault.GateStrategyFault.TheVariants as faults
 use Rattle.qrp_winner.specs.declared.strategy.Strategy.{Strategy}
-use Rattle.qrp_gates.specs.Lines.{question_number, question_status, refusal_line, refusal_status}
+use Rattle.gate_report.specs.Lines.{unverified_line}
+use Rattle.gate_report.specs.Refusals.{gate_status, question_refusal, unverified_status}
+use Rattle.gate_report.specs.declared.refusal.GateRefusal.{GateRefusal}
 use Rattle.qrp_gates.specs.Output.{PrintsVerdict, WritesClauses, WritesStrategy, check_report, clauses_report, strategy_report}
 use Rattle.qrp_gates.specs.declared.job.Job.TheVariants as job
 
@@ -41,11 +43,11 @@ pub same_rules : (a b : Rules) → job.Check a ≡ job.Check b → a ≡ b
 same_rules a b e = cc e
 
 -- the status of a refusal is not 0
-question_refused : (number : ℕ) → question_status number ≡ 0 → ⊥
-question_refused number is = grind (arith, common_steps)
+gates_refused : (r : GateRefusal) → gate_status r ≡ 0 → ⊥
+gates_refused r is = grind (arith, common_steps)
 
-is_refused : (e : Unverified) → refusal_status e ≡ 0 → ⊥
-is_refused (fault.Question e n) is = question_refused (question_number e) is
+is_refused : (e : Unverified) → unverified_status e ≡ 0 → ⊥
+is_refused (fault.Question e n) is = gates_refused (question_refusal e n) is
 is_refused fault.TooLong is = omega (arith, is)
 is_refused (fault.Proof e) is = cli.is_refused e is
 
@@ -57,7 +59,7 @@ pub prints_verdict : {S : Type 0} (sink : sinks.Ghosts S) (old new : S) (rules :
 prints_verdict sink old new rules question trace a b (Ok t) returned holds is_a is_b sent zero =
     (t, rw is_b at (rw is_a at holds), (cli.sent_whole sink old new (verdict_line t) 0 returned sent zero).0)
 prints_verdict sink old new rules question trace a b (Err e) returned holds is_a is_b sent zero =
-    absurd (is_refused e (cli.sent_whole sink old new (refusal_line e) (refusal_status e) returned sent zero).1)
+    absurd (is_refused e (cli.sent_whole sink old new (unverified_line e) (unverified_status e) returned sent zero).1)
 
 -- the formula of gates of which clauses were made
 made_of : (read : Result Question (QuestionFault × ℕ)) (f : Qbf)
@@ -80,7 +82,7 @@ writes_clauses sink old new question a (Ok f) returned made is_a sent zero =
       subst (λ (g : Qbf). Appends (sink.written old) (sink.written new) (text g)) w.2 (cli.sent_whole sink old new (text f) 0 returned sent zero).0,
     )
 writes_clauses sink old new question a (Err e) returned made is_a sent zero =
-    absurd (is_refused e (cli.sent_whole sink old new (refusal_line e) (refusal_status e) returned sent zero).1)
+    absurd (is_refused e (cli.sent_whole sink old new (unverified_line e) (unverified_status e) returned sent zero).1)
 
 -- a report of clauses that were made goes to the first sink
 pub of_clauses : {O E : Type 0} (o : sinks.Ghosts O) (out out2 : O) (e : sinks.Ghosts E) (errors errors2 : E) (made : Result Qbf Unverified)
@@ -88,7 +90,7 @@ pub of_clauses : {O E : Type 0} (o : sinks.Ghosts O) (out out2 : O) (e : sinks.G
     → IsReportedTo o out out2 (clauses_report made) returned
 of_clauses o out out2 e errors errors2 (Ok f) returned sent zero = sent.0
 of_clauses o out out2 e errors errors2 (Err g) returned sent zero =
-    absurd (is_refused g (cli.sent_whole e errors errors2 (refusal_line g) (refusal_status g) returned sent.0 zero).1)
+    absurd (is_refused g (cli.sent_whole e errors errors2 (unverified_line g) (unverified_status g) returned sent.0 zero).1)
 
 -- the job of a strategy has one pair of rules and format
 pub same_format : (r s : Rules) (a b : Bool) → job.Strategy r a ≡ job.Strategy s b → a ≡ b
@@ -98,14 +100,14 @@ same_format r s a b e = cc e
 pub of_strategy : {O E : Type 0} (o : sinks.Ghosts O) (out out2 : O) (e : sinks.Ghosts E) (errors errors2 : E) (binary : Bool)
     (found : Result (Question × Strategy) GateStrategyFault) (returned : ℕ)
     → IsReported o out out2 e errors errors2 (strategy_report binary found) returned → returned ≡ 0
-    → (w : Question × Strategy) × (found ≡ Ok w) × Appends (o.written out) (o.written out2) (circuit_text binary w.1.circuit)
+    → (w : Question × Strategy) × (found ≡ Ok w) × Appends (o.written out) (o.written out2) (named_text binary w.0.names w.1.circuit)
 of_strategy o out out2 e errors errors2 binary (Ok w) returned sent zero =
-    (w, refl, (cli.sent_whole o out out2 (circuit_text binary w.1.circuit) 0 returned sent.0 zero).0)
+    (w, refl, (cli.sent_whole o out out2 (named_text binary w.0.names w.1.circuit) 0 returned sent.0 zero).0)
 of_strategy o out out2 e errors errors2 binary (Err (faults.Check g)) returned sent zero =
-    absurd (is_refused g (cli.sent_whole e errors errors2 (refusal_line g) (refusal_status g) returned sent.0 zero).1)
+    absurd (is_refused g (cli.sent_whole e errors errors2 (unverified_line g) (unverified_status g) returned sent.0 zero).1)
 of_strategy o out out2 e errors errors2 binary (Err faults.NoMemory) returned sent zero =
     let g : Unverified = fault.Proof (proof.Check C5) in
-    absurd (is_refused g (cli.sent_whole e errors errors2 (refusal_line g) (refusal_status g) returned sent.0 zero).1)
+    absurd (is_refused g (cli.sent_whole e errors errors2 (unverified_line g) (unverified_status g) returned sent.0 zero).1)
 of_strategy o out out2 e errors errors2 binary (Err faults.NoCircuit) returned sent zero =
     let four : ◌≡◌ {A = ℕ} 4 0 = (cli.sent_whole e errors errors2 no_circuit.text 4 returned sent.0 zero).1 in absurd (omega (arith, four))
 

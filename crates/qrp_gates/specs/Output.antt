@@ -1,8 +1,8 @@
 -- The report of each job.
 use Rattle.std.specs.Prelude.{◌≡◌, ℕ, Bool, List, Result, Ok, Err}
 use Rattle.std.specs.Io.KnownBytes.{Appends}
-use Rattle.aiger.specs.Formats.{circuit_text}
 use Rattle.circuit_cli.specs.Output.{no_circuit}
+use Rattle.circuit_names.specs.Symbols.{named_text}
 use Rattle.qbf_core.specs.Qbf.{Qbf}
 use Rattle.qbf_text.specs.declared.sink.Sink.{Ghosts}
 use Rattle.qcir.specs.Grammar.{IsQuestion}
@@ -26,7 +26,8 @@ use Rattle.gate_strategy.specs.Strategies.{IsOfVerdict, IsOfWinner}
 use Rattle.gate_strategy.specs.declared.fault.GateStrategyFault.{GateStrategyFault}
 use Rattle.gate_strategy.specs.declared.fault.GateStrategyFault.TheVariants.{Check, NoCircuit, NoMemory}
 use Rattle.qrp_winner.specs.declared.strategy.Strategy.{Strategy}
-use Rattle.qrp_gates.specs.Lines.{refusal_line, refusal_status}
+use Rattle.gate_report.specs.Lines.{unverified_line}
+use Rattle.gate_report.specs.Refusals.{unverified_status}
 use Rattle.qrp_gates.specs.declared.job.Job.{Job}
 use Rattle.qrp_gates.specs.declared.job.Job.TheVariants as job
 
@@ -38,7 +39,7 @@ refusals (job.Check rules) = Out
 
 -- the refusal of a text or of the proof, or that there are too many clauses
 abbrev pub refusal : Stream → Unverified → Report
-refusal s e = record { stream = s; text = refusal_line e; status = refusal_status e; failed = 3 }
+refusal s e = record { stream = s; text = unverified_line e; status = unverified_status e; failed = 3 }
 
 -- the canonical text of the clauses, or why there are none
 abbrev pub clauses_report : Result Qbf Unverified → Report
@@ -50,9 +51,9 @@ abbrev pub check_report : Rules → Result Bool Unverified → Report
 check_report rules (Ok truth) = success (verdict_line truth)
 check_report rules (Err e) = refusal (refusals (job.Check rules)) e
 
--- the text of the circuit, or why there is none; out of memory is reported as that of a check
+-- the text of the circuit with the names of the formula, or why there is none; out of memory is reported as that of a check
 abbrev pub strategy_report : (binary : Bool) → Result (Question × Strategy) GateStrategyFault → Report
-strategy_report binary (Ok r) = success (circuit_text binary r.1.circuit)
+strategy_report binary (Ok r) = success (named_text binary r.0.names r.1.circuit)
 strategy_report binary (Err (Check e)) = refusal Errors e
 strategy_report binary (Err NoMemory) = refusal Errors (fault.Proof (proof.Check C5))
 strategy_report binary (Err NoCircuit) = no_circuit
@@ -76,7 +77,9 @@ abbrev pub WritesClauses : {S : Type 0} → Ghosts S → S → S → List ℕ �
 WritesClauses sink old new question =
     (q : Question) × IsQuestion question q × Appends (sink.written old) (sink.written new) (text (in_clauses q.formula))
 
--- The text of a circuit went out to a sink, and the bytes spell a formula of gates whose winner wins by the circuit.
+-- The text of a circuit went out to a sink, and the bytes spell a formula of gates whose winner wins by the circuit; the text has the names
+-- that these bytes give to its variables.
 abbrev pub WritesStrategy : {S : Type 0} → Ghosts S → S → S → (binary : Bool) → List ℕ → List ℕ → Type 0
 WritesStrategy sink old new binary question trace =
-    (w : Question × Strategy) × IsOfWinner question trace w × Appends (sink.written old) (sink.written new) (circuit_text binary w.1.circuit)
+    (w : Question × Strategy) × IsOfWinner question trace w
+    × Appends (sink.written old) (sink.written new) (named_text binary w.0.names w.1.circuit)

@@ -5,7 +5,7 @@
 //! - Offers: the program.
 //! - Proved: `run` writes exactly the report for its files to the right sink, with its status. With
 //!   status 0, `check` printed the truth of the formula of gates, `clauses` wrote its clauses, and
-//!   `strategy` the circuit by which its winner wins.
+//!   `strategy` the circuit by which its winner wins, with the names of its variables.
 //! - Read first: `run`, `request`, and then `program` of `qrp_program`.
 //! - Tested only: over the built program.
 //! - Trusted: std's files, arguments and streams, as `main` uses them.

@@ -3,7 +3,8 @@
 ghost use Rattle.std.specs.Prelude.{◌≡◌, List, ℕ, Bool, Some, Result};
 ghost use Rattle.qrp_check.specs.Checked.{call_of};
 ghost use Rattle.qrp_rules.specs.declared.rules.Rules.{Rules};
-ghost use Rattle.qrp_program.specs.Output.{Report, IsReported, IsReportedTo};
+ghost use Rattle.circuit_names.specs.Symbols.{named_text};
+ghost use Rattle.qrp_program.specs.Output.{Report, IsReported, IsReportedTo, IsSent};
 ghost use Rattle.gate_verify.specs.Checked.{IsChecked, StopsOnceRead};
 ghost use Rattle.gate_verify.specs.Made.{AreMade};
 ghost use Rattle.gate_strategy.specs.Strategies.{IsOfVerdict};
@@ -17,7 +18,9 @@ ghost use Rattle.qrp_gates.specs.Output.{PrintsVerdict, WritesClauses, WritesStr
 
 use crate::job::Job;
 use crate::lines::send_refusal;
-use circuit_cli::{send_circuit, send_no_circuit};
+use aiger::Circuit;
+use circuit_cli::send_no_circuit;
+use circuit_names::write_named_circuit;
 use gate_strategy::{GateStrategyFault, find_gate_strategy};
 use gate_verify::{Unverified, read_in_clauses, verify_question};
 use qbf_core::Formula;
@@ -25,7 +28,7 @@ use qbf_text::{Sink, Source};
 use qcir::{Question, read_bytes};
 use qrp_check::{CheckFault, Fault, Rules};
 use qrp_cli::{send_formula, send_verdict};
-use qrp_program::Status;
+use qrp_program::{Status, finish_sent};
 use qrp_winner::Strategy;
 use std::alloc::Global;
 
@@ -55,6 +58,16 @@ fn send_clauses<O: Sink, E: Sink>(
     }
 }
 
+/// Sends the text of a circuit in AIGER's binary format, or in its ASCII format, with the names of a
+/// formula of gates, and returns the status: 0, or 3 if the sink failed.
+fn send_named<S: Sink>(sink: &mut S, binary: bool, question: &Question, circuit: &Circuit) -> Status
+    ensures { IsSent S.Sink sink.old sink.new
+        (named_text binary question.now.names circuit.now) 0 3 result }
+{
+    let sent = write_named_circuit(circuit, question, binary, sink);
+    finish_sent(sink, sent, 0)
+}
+
 /// Sends the circuit to `out`, or the line for the refusal to `err`.
 fn send_strategy<O: Sink, E: Sink>(
     out: &mut O,
@@ -66,7 +79,7 @@ fn send_strategy<O: Sink, E: Sink>(
         (strategy_report binary found.entry) result }
 {
     match found {
-        Ok((_, strategy)) => send_circuit(out, binary, &strategy.circuit),
+        Ok((question, strategy)) => send_named(out, binary, &question, &strategy.circuit),
         Err(GateStrategyFault::Check(fault)) => send_refusal(err, fault),
         Err(GateStrategyFault::NoMemory) => {
             send_refusal(err, Unverified::Proof(Fault::Check(CheckFault::C5)))
@@ -134,7 +147,7 @@ pub fn run<F: Source, T: Source, O: Sink, E: Sink>(
     ensures clauses { (a : List ℕ) → job ≡ Clauses → F.remaining formula.old ≡ Some a
         → result ≡ 0 → WritesClauses O.Sink out.old out.new a }
     // The text that `strategy` prints with status 0 is that of a circuit by which the winner of the
-    // formula of gates wins.
+    // formula of gates wins, with the names that the bytes give to its variables.
     ensures strategy { (rules : Rules) (binary : Bool) (a b : List ℕ) → job ≡ jobs.Strategy rules binary
         → F.remaining formula.old ≡ Some a → T.remaining trace.old ≡ Some b → result ≡ 0
         → WritesStrategy O.Sink out.old out.new binary a b }

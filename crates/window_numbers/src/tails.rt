@@ -9,8 +9,8 @@ ghost use Rattle.window_numbers.specs.Numbers.{FillsTo, IsTail};
 ghost use Rattle.window_numbers.specs.Values.{value};
 ghost use Rattle.window_numbers.specs.declared.numbers.TheConstants.{MOST, ROOM};
 
-use crate::four::four_numbers_between;
 use crate::cursor::{begins_with_minus, is_minus_zero};
+use crate::four::four_numbers_between;
 use crate::numbers::{MOST, Numbers, ROOM};
 use crate::separators::all_separate;
 use crate::usual::signed;

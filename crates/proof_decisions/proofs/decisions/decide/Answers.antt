@@ -1,4 +1,4 @@
-use Rattle.trace_check.proofs.Cited.{◌↔◌, ◌++◌, ◌∙◌, ◌∷◌, [], Block, Inference, List, Literal, ap, subst}
+use Rattle.trace_check.proofs.Cited.{◌↔◌, ◌∙◌, [], Block, Inference, List, Literal, ap, subst}
 use Rattle.qbf_core.specs.Lists.{Growing}
 use Rattle.qbf_core.specs.Rules.{IsReducible}
 use Rattle.qrp_rules.specs.Walks.{TakesOut}

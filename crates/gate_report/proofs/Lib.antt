@@ -1,0 +1,2 @@
+pub mod FaultsByNumbers
+mod WorkedLines
