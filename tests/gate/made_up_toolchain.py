@@ -12,7 +12,7 @@ import subprocess
 import tempfile
 from collections.abc import Callable
 from pathlib import Path
-from typing import Optional
+from typing import Optional, TypeVar
 
 GATE = Path(__file__).resolve().parents[2] / "gate"
 
@@ -111,6 +111,9 @@ EDITS = {
 }
 
 
+Entered = TypeVar("Entered", bound="Gate")
+
+
 class Gate:
     """A repository of some files in a folder of its own, with the commands of the gate and a toolchain."""
 
@@ -147,7 +150,7 @@ class Gate:
         """What is left in the folder of temporary files."""
         return [str(path) for path in self.temporary.iterdir()]
 
-    def __enter__(self) -> "Gate":
+    def __enter__(self: Entered) -> Entered:
         return self
 
     def __exit__(self, *_: object) -> None:

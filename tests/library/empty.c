@@ -14,6 +14,7 @@ static void settle(int is, const char *what) {
 
 int main(void) {
     static const char clause[] = "p cnf 0 1\n0\n", refutation[] = "p qrp 0 1\n1 0 0\nr unsat\n";
+    static const char gates[] = "#QCIR-14\noutput(g)\ng = and()\n", proof_of_gates[] = "p qrp 1 2\n1 1 0 0\n2 0 1 0\nr sat\n";
     const char *none = "";
     uint64_t no_numbers[1];
     char no_text[1];
@@ -38,6 +39,16 @@ int main(void) {
     settle(with_null == with_address && with_null == 1 && by_null.letter == 'V', "the list of qrp_core");
     settle(qrp_verdict_line(&by_null, NULL, 0) == strlen("VERIFIED false\n"), "the buffer of qrp_verdict_line");
     settle(qrp_fault_text(&by_null, NULL, 0) == 0, "the buffer of qrp_fault_text");
+
+    settle(qrp_gates_verify(NULL, 0, NULL, 0, false, &by_null) == qrp_gates_verify(none, 0, none, 0, false, &by_address)
+               && !memcmp(&by_null, &by_address, sizeof by_null) && by_null.letter == 'Q', "both texts of gates");
+    settle(qrp_gates_verify(gates, sizeof gates - 1, NULL, 0, false, &by_null) == QRP_TEXT_REFUSED && by_null.letter == 'P',
+           "the trace of gates");
+    settle(qrp_gates_clauses(gates, sizeof gates - 1, NULL, 0, &by_null) > 0 && by_null.letter == 0, "the buffer of qrp_gates_clauses");
+    settle(qrp_gates_clauses(NULL, 0, NULL, 0, &by_null) == 0 && by_null.letter == 'Q', "the text of qrp_gates_clauses");
+    with_null = qrp_gates_strategy(gates, sizeof gates - 1, proof_of_gates, sizeof proof_of_gates - 1, false, true, NULL, 0, &by_null);
+    with_address = qrp_gates_strategy(gates, sizeof gates - 1, proof_of_gates, sizeof proof_of_gates - 1, false, true, no_text, 0, &by_address);
+    settle(with_null == with_address && with_null > 0 && by_null.letter == 'V', "the buffer of qrp_gates_strategy");
 
     settle(qrp_proof_clause(&proof, NULL, 0) == QRP_NO_PROOF, "a clause of no proof");
     settle(qrp_proof_new(&proof) == QRP_ADDED && qrp_proof_clause(&proof, NULL, 0) == QRP_ADDED, "the literals of a clause");

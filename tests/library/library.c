@@ -1,6 +1,8 @@
 /* The tests of the library in C; tests/library/test-library compiles and runs them.
    usage: library LIST            each case of the list by each call, at every alignment, in every room, with each allocation refused,
                                   and by eight threads
+          library gates LIST      the same of formulas of gates, by their calls: what `format` prints is then what `qrp_gates clauses` does,
+                                  no trace is trimmed, and the circuits are those of `qrp_gates strategy`
           library times LIST      how long the cases of the list take, one after the other
 
    A line of the list is the flag (0 or 1), the status, the files of the formula, of the trace, of what `trim` and `format` print for them,
@@ -27,9 +29,10 @@ struct example {
     size_t steps;
 };
 
-/* The calls that take a text, the last of them in both formats, and where one of them writes. */
-enum call { VERIFY, TRIM, CORE, FORMAT, STRATEGY, BINARY, CALLS };
-static enum call calls = CALLS;
+/* The calls that take a text, the last of them in both formats, and where one of them writes; and those on formulas of gates. Those from
+   `first` on and before `end` are tried. */
+enum call { VERIFY, TRIM, CORE, FORMAT, STRATEGY, BINARY, GATES_VERIFY, CLAUSES, GATES_STRATEGY, GATES_BINARY, CALLS };
+static enum call first = VERIFY, end = GATES_VERIFY;
 struct written { char *text; uint64_t *steps; size_t room, returned; };
 
 static struct example examples[4096];
@@ -94,7 +97,7 @@ static void line_of(const struct qrp_verdict *v, char *line) {
     else if (v->letter == 'C' && v->number == 6) sprintf(line, "REFUSED step %llu S%d\n", position, v->rule);
     else if (v->letter == 'C' && v->number == 4) sprintf(line, "REFUSED trace C4\n");
     else if (v->letter == 'C') sprintf(line, "REFUSED set C%d variable %llu\n", v->number, position);
-    else sprintf(line, "REFUSED %s %c%d line %llu\n", v->letter == 'F' ? "formula" : "trace", v->letter, v->number, position);
+    else sprintf(line, "REFUSED %s %c%d line %llu\n", v->letter == 'P' ? "trace" : "formula", v->letter, v->number, position);
 }
 
 /* Makes a call with these texts, and returns the status in the struct. */
@@ -108,12 +111,22 @@ static int made(enum call call, const struct example *of, const uint8_t *formula
     case FORMAT: w->returned = qrp_format(formula, f, w->text, w->room, v); return v->status;
     case STRATEGY:
     case BINARY: w->returned = qrp_strategy(formula, f, trace, t, of->any_pivot, call == BINARY, w->text, w->room, v); return v->status;
+    case GATES_VERIFY: return qrp_gates_verify(formula, f, trace, t, of->any_pivot, v);
+    case CLAUSES: w->returned = qrp_gates_clauses(formula, f, w->text, w->room, v); return v->status;
+    case GATES_STRATEGY:
+    case GATES_BINARY:
+        w->returned = qrp_gates_strategy(formula, f, trace, t, of->any_pivot, call == GATES_BINARY, w->text, w->room, v);
+        return v->status;
     default: return qrp_verify(formula, f, trace, t, of->any_pivot, v);
     }
 }
 
+/* Whether a call writes a verdict alone, or the text of a formula, of which no trace is checked. */
+static bool is_verdict(enum call call) { return call == VERIFY || call == GATES_VERIFY; }
+static bool is_of_formula(enum call call) { return call == FORMAT || call == CLAUSES; }
+
 static int verify(const struct example *of, const uint8_t *formula, const uint8_t *trace, struct qrp_verdict *v) {
-    return made(VERIFY, of, formula, trace, v, NULL);
+    return made(first, of, formula, trace, v, NULL);
 }
 
 /* Whether the answer is the status and the line of the case, by the fields and by the library's own line. */
@@ -131,8 +144,10 @@ static bool is_answer(int status, const struct qrp_verdict *v, int wanted, const
 static const struct text *text_of(enum call call, const struct example *of) {
     switch (call) {
     case TRIM: return &of->trimmed;
-    case FORMAT: return &of->formatted;
-    case STRATEGY: return &of->circuit;
+    case FORMAT:
+    case CLAUSES: return &of->formatted;
+    case STRATEGY:
+    case GATES_STRATEGY: return &of->circuit;
     default: return &of->binary;
     }
 }
@@ -145,19 +160,19 @@ static bool is_text(const struct written *w, const struct text *wanted) {
 /* Whether a call did what the case says. Where a formula was formatted, all is zero, which is not a verdict. */
 static bool is_done(enum call call, int status, const struct example *of, const struct qrp_verdict *v, const struct written *w) {
     char line[QRP_LINE_ROOM];
-    if (call == FORMAT && of->formatted.length)
+    if (is_of_formula(call) && of->formatted.length)
         return !status && !v->reserved[0] && !v->reserved[1] && !v->reserved[2] && !v->position && !v->truth && !v->letter && !v->number && !v->rule && is_text(w, &of->formatted)
             && qrp_verdict_line(v, line, sizeof line) == 0 && !*line;
-    if (call == FORMAT && of->status != QRP_TEXT_REFUSED) return false;
+    if (is_of_formula(call) && of->status != QRP_TEXT_REFUSED) return false;
     if (!is_answer(status, v, of->status, of->line)) return false;
     if (call == CORE) return w->returned == of->steps && !memcmp(w->steps, of->core, of->steps * sizeof *of->core);
-    return call == VERIFY || is_text(w, text_of(call, of));
+    return is_verdict(call) || is_text(w, text_of(call, of));
 }
 
 /* Whether a call that got no memory says so and writes nothing. */
 static bool is_refused(enum call call, int status, const struct qrp_verdict *v, const struct written *w) {
-    return is_answer(status, v, QRP_NO_MEMORY, "NO MEMORY\n") && (call == VERIFY || w->returned == 0)
-        && (call == CORE || call == VERIFY || !*w->text);
+    return is_answer(status, v, QRP_NO_MEMORY, "NO MEMORY\n") && (is_verdict(call) || w->returned == 0)
+        && (call == CORE || is_verdict(call) || !*w->text);
 }
 
 static struct written room_of(size_t room) {
@@ -260,7 +275,7 @@ static void each_alignment(const struct example *of, struct written *w) {
     for (size_t at = 0; at < 16; at++) {
         size_t skip = (at + 5) % 16;
         struct text formula = guarded(of->formula, false, at), trace = guarded(of->trace, false, skip);
-        for (enum call call = VERIFY; call < calls; call++)
+        for (enum call call = first; call < end; call++)
             is &= is_done(call, made(call, of, formula.bytes, trace.bytes, &v, w), of, &v, w);
         is &= !memcmp(formula.bytes, of->formula.bytes, formula.length) && !memcmp(trace.bytes, of->trace.bytes, trace.length);
         unguard(formula, false, at);
@@ -292,7 +307,7 @@ static void *by_thread(void *wrong) {
     struct qrp_verdict v;
     struct written w = room_of(largest + 32);
     for (size_t i = 0; i < count; i++)
-        for (enum call call = VERIFY; call < calls; call++) {
+        for (enum call call = first; call < end; call++) {
             const struct example *of = &examples[i];
             int status = made(call, of, of->formula.bytes, of->trace.bytes, &v, &w);
             *(unsigned long *)wrong += !is_done(call, status, of, &v, &w) || blocks != 0;
@@ -356,7 +371,7 @@ static struct text bytes_of(const char *name) {
 /* The bytes of a file that `qrp_strategy` printed, if it is there. */
 static struct text printed(const char *name) {
     if (strcmp(name, "-")) return bytes_of(name);
-    calls = STRATEGY;
+    if (first == VERIFY) end = STRATEGY;
     return (struct text){NULL, 0};
 }
 
@@ -388,10 +403,11 @@ static void read_list(const char *name) {
         of->circuit = printed(strtok(NULL, "\t"));
         of->binary = printed(strtok(NULL, "\t"));
         read_core(of);
-        size_t lengths[4] = {of->formula.length, of->trace.length, of->circuit.length, of->binary.length};
-        for (int k = 0; k < 4; k++) if (lengths[k] > largest) largest = lengths[k];
+        size_t lengths[5] = {of->formula.length, of->trace.length, of->formatted.length, of->circuit.length, of->binary.length};
+        for (int k = 0; k < 5; k++) if (lengths[k] > largest) largest = lengths[k];
         /* What the header says of the room. */
-        settle(of->trimmed.length < of->trace.length + 32 && of->formatted.length < of->formula.length + 32, "room for a text", of);
+        if (first == VERIFY)
+            settle(of->trimmed.length < of->trace.length + 32 && of->formatted.length < of->formula.length + 32, "room for a text", of);
         snprintf(of->line, sizeof of->line, "%s", strtok(NULL, ""));
     }
     if (!feof(list)) { fprintf(stderr, "%s: too many cases\n", name); exit(3); }
@@ -415,9 +431,11 @@ static long best_time(void) {
 
 int main(int arguments, char **words) {
     if (arguments < 2) return 5;
+    bool is_timed = arguments > 2 && !strcmp(words[1], "times");
+    if (arguments > 2 && !is_timed) first = GATES_VERIFY, end = CALLS;
     read_list(words[arguments - 1]);
     blocks = 0;
-    if (arguments > 2) {
+    if (is_timed) {
         printf("%ld\n", best_time());
         return failed != 0;
     }
@@ -425,23 +443,23 @@ int main(int arguments, char **words) {
     for (size_t i = 0; i < count; i++) {
         struct qrp_verdict v;
         const struct example *of = &examples[i];
-        for (enum call call = VERIFY; call < calls; call++) {
+        for (enum call call = first; call < end; call++) {
             int status = made(call, of, of->formula.bytes, of->trace.bytes, &v, &w);
             settle(is_done(call, status, of, &v, &w) && blocks == 0, "a call", of);
             each_refusal(call, of, &w);
         }
         verify(of, of->formula.bytes, of->trace.bytes, &v);
         each_room(of, &v);
-        for (enum call call = TRIM; call < calls; call++)
+        for (enum call call = first + 1; call < end; call++)
             if (call != CORE) rooms_around(call, of);
-        core_rooms(of);
+        if (first == VERIFY) core_rooms(of);
         each_alignment(of, &w);
     }
     __real_free(w.text);
     __real_free(w.steps);
     other_structs();
     eight_threads();
-    printf("in C: %lu cases, %lu allocations refused\n", (unsigned long)count, refused);
+    printf("in C: %lu cases%s, %lu allocations refused\n", (unsigned long)count, first == VERIFY ? "" : " of gates", refused);
     printf("%lu %lu %lu\n", passed, failed, refused);
     return failed != 0;
 }

@@ -1,9 +1,11 @@
-"""The tests of the module; tests/library/test-library runs them. usage: test_qrp_check.py LIST, or test_qrp_check.py times LIST
+"""The tests of the module; tests/library/test-library runs them. usage: test_qrp_check.py LIST, or test_qrp_check.py gates LIST,
+or test_qrp_check.py times LIST
 
 A line of the list is the flag (0 or 1), the status, the files of the formula, of the trace, of what `trim` and `format` print for them, of
 what `qrp_strategy` prints in both formats (each a `-`, if that program is not there), and the line, with tabs between them. The last line
-that is printed has two numbers, how many cases passed and failed; with `times` it is how many microseconds the cases of the list take, the
-best of twenty runs.
+that is printed has two numbers, how many cases passed and failed. With `gates` the cases are formulas of gates: their clauses are in the
+place of what `format` prints, and the circuits are those of `qrp_gates strategy`; no trace is trimmed. With `times` the last line is how many
+microseconds the cases of the list take, the best of twenty runs.
 """
 
 import array
@@ -29,15 +31,19 @@ import time
 import typing
 import unittest.mock
 import warnings
+from collections.abc import Callable, Iterator
+from typing import Any
 
 try:
     import numpy
 except ImportError:
-    numpy = None
+    numpy = None  # type: ignore[assignment]
 
 ROOT = pathlib.Path(__file__).resolve().parents[2]
 sys.path.insert(0, str(ROOT / "python"))
 import qrp_check  # noqa: E402
+
+LOOSE: Any = qrp_check  # for calls that its types do not allow, and that it refuses itself
 
 
 @dataclasses.dataclass
@@ -56,15 +62,16 @@ class Example:
     line: str
 
 
-def examples(path):
+def examples(path: str) -> Iterator[Example]:
     """The cases of the list."""
     for row in pathlib.Path(path).read_text().splitlines():
         flag, status, *files, line = row.split("\t")
-        texts = [None if file == "-" else pathlib.Path(file).read_bytes() for file in files]
-        yield Example(flag == "1", int(status), tuple(files[:2]), *texts, line)
+        texts: list[Any] = [None if file == "-" else pathlib.Path(file).read_bytes() for file in files]
+        formula, trace, trimmed, formatted, circuit, binary = texts
+        yield Example(flag == "1", int(status), (files[0], files[1]), formula, trace, trimmed, formatted, circuit, binary, line)
 
 
-def is_verdict(verdict, example):
+def is_verdict(verdict: Any, example: Example) -> bool:
     """Whether the verdict is the one that the list says."""
     truth = {"VERIFIED true": True, "VERIFIED false": False}.get(example.line)
     words = example.line.split()
@@ -75,7 +82,7 @@ def is_verdict(verdict, example):
     return found == (example.status, truth, fault, position, example.line, truth is not None) and (verdict.meaning is None) == verdict.verified
 
 
-def text_or_verdict(call, *words, **flags):
+def text_or_verdict(call: Callable[..., Any], *words: Any, **flags: Any) -> Any:
     """What the call returns, or the verdict with which it refuses."""
     try:
         return call(*words, **flags)
@@ -84,13 +91,13 @@ def text_or_verdict(call, *words, **flags):
         return error.verdict
 
 
-def numbers(trimmed):
+def numbers(trimmed: bytes) -> list[int]:
     """The numbers of the steps of a trimmed trace."""
     lines = trimmed.decode().splitlines()
     return [int(line.split()[0]) for line in lines if line[0].isdigit()]
 
 
-def is_circuit(example, binary, wanted):
+def is_circuit(example: Example, binary: bool, wanted: Any) -> bool:
     """Whether the circuit in this format is that of the program, from bytes and from files, or is refused as the list says."""
     flags = {"any_pivot": example.any_pivot, "binary": binary}
     found = text_or_verdict(qrp_check.strategy, example.formula, example.trace, **flags)
@@ -99,11 +106,11 @@ def is_circuit(example, binary, wanted):
     return found == wanted if example.status == 0 else is_verdict(found, example)
 
 
-def is_answered(example):
+def is_answered(example: Example) -> bool:
     """Whether each call of the module answers this case as the list says."""
     texts, flag = (example.formula, example.trace), {"any_pivot": example.any_pivot}
-    by_name = qrp_check.verify_files(*example.files, **flag)
-    if not is_verdict(qrp_check.verify(*texts, **flag), example) or not is_verdict(by_name, example):
+    by_name = LOOSE.verify_files(*example.files, **flag)
+    if not is_verdict(LOOSE.verify(*texts, **flag), example) or not is_verdict(by_name, example):
         return False
     trimmed = text_or_verdict(qrp_check.trim, *texts, **flag)
     core = text_or_verdict(qrp_check.core, *texts, **flag)
@@ -118,22 +125,44 @@ def is_answered(example):
         return False
     if example.status == 0:
         return trimmed == example.trimmed and core == numbers(trimmed)
-    return is_verdict(trimmed, example) and is_verdict(core, example) and (example.formatted or is_verdict(formatted, example))
+    return is_verdict(trimmed, example) and is_verdict(core, example) and (bool(example.formatted) or is_verdict(formatted, example))
 
 
-def is_lent(example):
+def is_gates_circuit(example: Example, binary: bool, wanted: "bytes | None") -> bool:
+    """Whether the circuit of a formula of gates in this format is that of the program, from bytes and from files, or is refused."""
+    flags: dict[str, Any] = {"any_pivot": example.any_pivot, "binary": binary}
+    found = text_or_verdict(qrp_check.gates_strategy, example.formula, example.trace, **flags)
+    if found != text_or_verdict(qrp_check.gates_strategy_files, *example.files, **flags):
+        return False
+    return bool(found == wanted) if example.status == 0 else is_verdict(found, example)
+
+
+def is_gates_answered(example: Example) -> bool:
+    """Whether each call on formulas of gates answers this case as the list says."""
+    flag: dict[str, Any] = {"any_pivot": example.any_pivot}
+    found = qrp_check.gates_verify(example.formula, example.trace, **flag), qrp_check.gates_verify_files(*example.files, **flag)
+    clauses = text_or_verdict(qrp_check.gates_clauses, example.formula)
+    return (
+        all(is_verdict(verdict, example) for verdict in found)
+        and (clauses == example.formatted if example.formatted else is_verdict(clauses, example))
+        and is_gates_circuit(example, False, example.circuit)
+        and is_gates_circuit(example, True, example.binary)
+    )
+
+
+def is_lent(example: Example) -> bool:
     """Whether each kind of buffer is read as bytes are, and can be changed again after the call."""
     with tempfile.TemporaryFile() as file:
         file.write(example.trace)
         file.flush()
         with mmap.mmap(file.fileno(), 0) as mapped:
-            kinds = [bytearray(example.trace), memoryview(example.trace), memoryview(b"xx" + example.trace)[2:], mapped]
+            kinds: list[Any] = [bytearray(example.trace), memoryview(example.trace), memoryview(b"xx" + example.trace)[2:], mapped]
             right = all(is_verdict(qrp_check.verify(example.formula, kind, any_pivot=example.any_pivot), example) for kind in kinds)
     kinds[0].extend(b"more")
     return right
 
 
-def says(kind, words, call):
+def says(kind: Any, words: Any, call: Callable[..., Any]) -> bool:
     """Whether the call raises an error of this kind that has these words."""
     try:
         call()
@@ -142,27 +171,28 @@ def says(kind, words, call):
     return False
 
 
-def imports(library):
+def imports(library: Any) -> Any:
     """What importing the module prints where the library is this file."""
     environment = {**os.environ, "QRP_LIBRARY": str(library), "PYTHONPATH": str(ROOT / "python")}
     return subprocess.run([sys.executable, "-c", "import qrp_check"], env=environment, capture_output=True, text=True, check=False).stderr
 
 
-def errors(example):
+def errors(example: Example) -> list[Any]:
     """Whether each error says what to do."""
     verdict = qrp_check.verify(example.formula, example.trace)
     text = memoryview(b"a b c ")[::2]
     another = imports(next(pathlib.Path("/usr/lib").rglob("libm.so.6"), "/lib64/libm.so.6"))
     return [
-        says(TypeError, ["formula", "str", ".encode()", "verify_files"], lambda: qrp_check.verify("p cnf 0 0\n", b"")),
-        says(TypeError, ["trace", "NoneType", "bytearray"], lambda: qrp_check.verify(b"", None)),
-        says(TypeError, ["formula", "Path", "read_bytes", "trim_files"], lambda: qrp_check.trim(pathlib.Path("x"), b"")),
-        says(TypeError, ["trace", "str", "strategy_files"], lambda: qrp_check.strategy(b"", "p qrp 0 0\n")),
+        says(TypeError, ["formula", "str", ".encode()", "verify_files"], lambda: LOOSE.verify("p cnf 0 0\n", b"")),
+        says(TypeError, ["trace", "NoneType", "bytearray"], lambda: LOOSE.verify(b"", None)),
+        says(TypeError, ["formula", "Path", "read_bytes", "trim_files"], lambda: LOOSE.trim(pathlib.Path("x"), b"")),
+        says(TypeError, ["trace", "str", "strategy_files"], lambda: LOOSE.strategy(b"", "p qrp 0 0\n")),
         *(
             says(TypeError, ["binary", "True or False", "1"], lambda call=call: call(b"", b"", binary=1))
-            for call in (qrp_check.strategy, qrp_check.strategy_files)
+            for call in (qrp_check.strategy, qrp_check.strategy_files, qrp_check.gates_strategy, qrp_check.gates_strategy_files)
         ),
         says(OverflowError, ["verified", "no circuit", "2147483647"], lambda: without_circuit(example)),
+        *gates_errors(),
         *(says(TypeError, ["positional argument"], lambda call=call: call(b"", b"", True)) for call in with_flag()),
         *(
             says(TypeError, ["any_pivot", "True or False", repr(flag)], lambda call=call, flag=flag: call(b"", b"", any_pivot=flag))
@@ -182,27 +212,71 @@ def errors(example):
 class NoCircuit:
     """The library as it is if a trace is verified, and AIGER has no numbers for the gates of its circuit."""
 
-    def __init__(self, library):
+    def __init__(self, library: Any) -> None:
         self.library = library
 
-    def __getattr__(self, name):
+    def __getattr__(self, name: str) -> Any:
         return getattr(self.library, name)
 
-    def qrp_strategy(self, formula, formula_length, trace, trace_length, any_pivot, _binary, _buffer, _room, out):
+    def qrp_strategy(
+        self, formula: Any, formula_length: Any, trace: Any, trace_length: Any, any_pivot: bool, _binary: Any, _buffer: Any, _room: Any, out: Any
+    ) -> int:
         self.library.qrp_verify(formula, formula_length, trace, trace_length, any_pivot, out)
         return 0
 
+    def qrp_gates_strategy(
+        self, formula: Any, formula_length: Any, trace: Any, trace_length: Any, any_pivot: bool, _binary: Any, _buffer: Any, _room: Any, out: Any
+    ) -> int:
+        self.library.qrp_gates_verify(formula, formula_length, trace, trace_length, any_pivot, out)
+        return 0
 
-def without_circuit(example):
-    """What the module does if no circuit is made."""
-    library, qrp_check._library = qrp_check._library, NoCircuit(qrp_check._library)
+
+class TooManyClauses:
+    """The library as it is if a formula of gates has more clauses than QDIMACS can count."""
+
+    def __getattr__(self, name: str) -> Callable[..., int]:
+        def call(*words: Any) -> int:
+            found = words[-1]._obj
+            found.status, found.letter, found.number = 4, ord("Q"), 12
+            return 4 if name == "qrp_gates_verify" else 0
+
+        return call
+
+
+def with_library(library: Any, call: Callable[[], Any]) -> Any:
+    """What a call does with another library."""
+    kept, LOOSE._library = qrp_check._library, library
     try:
-        return qrp_check.strategy(example.formula, example.trace, any_pivot=example.any_pivot)
+        return call()
     finally:
-        qrp_check._library = library
+        LOOSE._library = kept
 
 
-def from_pipe(example):
+def without_circuit(example: Example) -> Any:
+    """What the module does if no circuit is made."""
+    return with_library(NoCircuit(qrp_check._library), lambda: qrp_check.strategy(example.formula, example.trace, any_pivot=example.any_pivot))
+
+
+GATES = b"#QCIR-14\noutput(g)\ng = and()\n"
+PROOF_OF_GATES = b"p qrp 1 2\n1 1 0 0\n2 0 1 0\nr sat\n"
+
+
+def gates_errors() -> list[Any]:
+    """Whether each error of a formula of gates says what to do."""
+    texts = (GATES, PROOF_OF_GATES)
+    without, many = NoCircuit(qrp_check._library), TooManyClauses()
+    calls = [lambda: qrp_check.gates_verify(*texts), lambda: qrp_check.gates_clauses(GATES)]
+    calls.append(lambda: qrp_check.gates_strategy(*texts))
+    return [
+        says(OverflowError, ["verified", "no circuit", "2147483647"], lambda: with_library(without, lambda: qrp_check.gates_strategy(*texts))),
+        *(says(OverflowError, ["more clauses", "2147483647"], lambda call=call: with_library(many, call)) for call in calls),
+        says(qrp_check.Refused, ["REFUSED formula Q2 line 1", "QCIR-14"], lambda: qrp_check.gates_clauses(b"")),
+        says(TypeError, ["formula", "str", "gates_verify_files"], lambda: LOOSE.gates_verify("#QCIR-14\n", b"")),
+        says(FileNotFoundError, ["none.qcir"], lambda: qrp_check.gates_verify_files("none.qcir", "none.qrp")),
+    ]
+
+
+def from_pipe(example: Example) -> Any:
     """Whether a file that cannot be mapped is read."""
     reader, writer = os.pipe()
     os.write(writer, example.trace)
@@ -213,25 +287,25 @@ def from_pipe(example):
         os.close(reader)
 
 
-def struct_of(fault):
+def struct_of(fault: Any) -> Any:
     """The struct that the library writes for a fault on line, at step or for variable 1, by its name."""
     letter, number = fault[0], int(fault[1:])
     rule = number if letter == "S" else 0
     letter, number = ("C", 6) if rule else (letter, number)
-    device = letter in "FP" and number == 1
-    memory = (letter, number) in (("F", 9), ("P", 9), ("C", 5))
+    device = letter in "FPQ" and number == 1
+    memory = (letter, number) in (("F", 9), ("P", 9), ("C", 5), ("Q", 11), ("Q", 12))
     position = 0 if device or memory or (letter, number) == ("C", 4) else 1
     return qrp_check._Verdict(position=position, status=status_of(letter, device, memory), truth=0, letter=ord(letter), number=number, rule=rule)
 
 
-def status_of(letter, device, memory):
+def status_of(letter: str, device: bool, memory: bool) -> Any:
     """The status of a fault."""
     if device or memory:
         return 3 if device else 4
     return 1 if letter == "C" else 2
 
 
-def sentence_of(fault):
+def sentence_of(fault: Any) -> Any:
     """What `qrp_fault_text` writes for a fault."""
     room = ctypes.create_string_buffer(qrp_check._FAULT_ROOM)
     verdict = struct_of(fault)
@@ -239,10 +313,10 @@ def sentence_of(fault):
     return room.raw[:length].decode() if room.raw[length] == 0 else ""
 
 
-def meanings():
+def meanings() -> list[Any]:
     """Whether each fault has the sentence that tests/meanings.tsv has for it, and each name stands there once."""
     rows = [line.split("\t") for line in (ROOT / "tests" / "meanings.tsv").read_text().splitlines()]
-    names = [f"{letter}{number}" for letter, last in (("F", 9), ("P", 9), ("C", 5), ("S", 12)) for number in range(1, last + 1)]
+    names = [f"{letter}{number}" for letter, last in (("F", 9), ("P", 9), ("C", 5), ("S", 12), ("Q", 12)) for number in range(1, last + 1)]
     wrong = [f"{fault}: {sentence_of(fault)}" for fault, wanted in rows[1:] if sentence_of(fault) != wanted]
     for line in wrong:
         print(f"FAILED: the sentence of {line}")
@@ -253,17 +327,17 @@ def meanings():
     ]
 
 
-def with_flag():
-    names = [name for name in qrp_check.__all__ if name[0].islower()]
+def with_flag() -> list[Any]:
+    names = [name for name in qrp_check.__all__ if name[0].islower() and name != "gates_clauses"]
     return [getattr(qrp_check, name) for name in names]
 
 
-def trimmed_of(example):
+def trimmed_of(example: Example) -> Any:
     """The trimmed trace, or Refused: what another process is asked for."""
     return qrp_check.trim(example.formula, example.trace, any_pivot=example.any_pivot)
 
 
-def raised_or_returned(ask):
+def raised_or_returned(ask: Callable[[], Any]) -> Any:
     """What is asked for, or the Refused that it raises, as its text and verdict."""
     try:
         return ask()
@@ -271,27 +345,27 @@ def raised_or_returned(ask):
         return str(error), error.verdict
 
 
-def in_processes(verified, refused):
+def in_processes(verified: Any, refused: Any) -> list[bool]:
     """Whether verdicts and refusals come from other processes and threads as they are here."""
-    wanted = [raised_or_returned(lambda case=case: trimmed_of(case)) for case in (verified, refused)]
+    wanted = [raised_or_returned(functools.partial(trimmed_of, case)) for case in (verified, refused)]
     verdict = qrp_check.verify(refused.formula, refused.trace, any_pivot=refused.any_pivot)
     copies = [pickle.loads(pickle.dumps(qrp_check.Refused(verdict), protocol)) for protocol in range(pickle.HIGHEST_PROTOCOL + 1)]
     answers = [pickle.loads(pickle.dumps(verdict)) == verdict, all((str(copy), copy.verdict) == wanted[1] for copy in copies)]
     with multiprocessing.Pool(2) as pool:
-        asked = [pool.apply_async(trimmed_of, [case]) for case in (verified, refused)]
-        answers.append([raised_or_returned(lambda one=one: one.get(60)) for one in asked] == wanted)
+        begun = [pool.apply_async(trimmed_of, [case]) for case in (verified, refused)]
+        answers.append([raised_or_returned(functools.partial(one.get, 60)) for one in begun] == wanted)
     for executor in concurrent.futures.ProcessPoolExecutor, concurrent.futures.ThreadPoolExecutor:
         with executor(2) as pool:
             asked = [pool.submit(trimmed_of, case) for case in (verified, refused)]
-            answers.append([raised_or_returned(lambda one=one: one.result(60)) for one in asked] == wanted)
+            answers.append([raised_or_returned(functools.partial(one.result, 60)) for one in asked] == wanted)
     return answers
 
 
-def names():
+def names() -> list[Any]:
     """Whether the names for users are all that is seen, and what they mean is told."""
-    calls = {name + of for name in ("core", "strategy", "trim", "verify") for of in ("", "_files")}
-    wanted = {"PieceRefused", "Proof", "Refused", "Verdict", "format", *calls}
-    starred = {}
+    calls = {name + of for name in ("core", "gates_strategy", "gates_verify", "strategy", "trim", "verify") for of in ("", "_files")}
+    wanted = {"PieceRefused", "Proof", "Refused", "Verdict", "format", "gates_clauses", *calls}
+    starred: dict[Any, Any] = {}
     exec("from qrp_check import *", starred)
     text = pydoc.plain(pydoc.render_doc(qrp_check.Verdict))
     fields = [field.name for field in dataclasses.fields(qrp_check.Verdict)]
@@ -302,7 +376,7 @@ def names():
     ]
 
 
-def while_cut(example):
+def while_cut(example: Example) -> Any:
     """Whether a file that is cut while it is checked does no harm, and a large one is mapped."""
     with tempfile.TemporaryDirectory() as folder:
         path = pathlib.Path(folder, "trace")
@@ -319,15 +393,15 @@ def while_cut(example):
         qrp_check._READ_UP_TO = before
 
 
-def as_program(cases):
+def as_program(cases: list[Any]) -> list[Any]:
     """Whether `python -m qrp_check` prints the line and ends with the status of the program."""
     environment = {**os.environ, "PYTHONPATH": str(ROOT / "python")}
 
-    def ask(*words):
+    def ask(*words: Any) -> tuple[Any, Any, Any]:
         ended = subprocess.run([sys.executable, "-m", "qrp_check", *words], env=environment, check=False, text=True, capture_output=True)
         return ended.stdout, ended.stderr, ended.returncode
 
-    def ask_shell(redirection, files):
+    def ask_shell(redirection: str, files: Any) -> tuple[Any, Any]:
         words = ["bash", "-c", f'"$@" {redirection}', "bash", sys.executable, "-m", "qrp_check", *files]
         ended = subprocess.run(words, env=environment, check=False, capture_output=True, text=True)
         return ended.stderr, ended.returncode
@@ -351,7 +425,7 @@ def as_program(cases):
     ]
 
 
-def interrupted(files, environment):
+def interrupted(files: Any, environment: Any) -> list[Any]:
     """Whether an interrupt ends `python -m qrp_check` at once and without a word, while it reads a pipe into which nobody writes."""
     with tempfile.TemporaryDirectory() as folder:
         pipe = os.path.join(folder, "pipe")
@@ -381,16 +455,17 @@ class Refusing:
     def __init__(self, library):
         self.library = library
 
-    def __getattr__(self, name):
-        def call(*words):
+    def __getattr__(self, name: str) -> Callable[..., int]:
+        def call(*words: Any) -> int:
             words[-1]._obj.status = 4
             return 0
         return getattr(self.library, name) if name.startswith("qrp_verdict") or name == "qrp_fault_text" else call
 
 qrp_check._library = Refusing(qrp_check._library)
 texts = [open(name, "rb").read() for name in sys.argv[1:]]
-calls = [(getattr(qrp_check, name), texts) for name in ("verify", "trim", "core", "strategy")] + [(qrp_check.format, texts[:1])]
-calls += [(getattr(qrp_check, name), sys.argv[1:]) for name in ("verify_files", "trim_files", "core_files", "strategy_files")]
+names = ("verify", "trim", "core", "strategy", "gates_verify", "gates_strategy")
+calls = [(getattr(qrp_check, name), texts) for name in names] + [(call, texts[:1]) for call in (qrp_check.format, qrp_check.gates_clauses)]
+calls += [(getattr(qrp_check, name + "_files"), sys.argv[1:]) for name in names]
 for call, words in calls:
     try:
         print(call(*words))
@@ -400,11 +475,11 @@ sys.exit(program.main())
 """
 
 
-def without_memory(example):
+def without_memory(example: Example) -> list[Any]:
     """Whether each call raises MemoryError if memory is refused, and `python -m qrp_check` says NO MEMORY."""
     environment = {**os.environ, "PYTHONPATH": str(ROOT / "python")}
     ended = subprocess.run([sys.executable, "-c", WITHOUT_MEMORY, *example.files], env=environment, capture_output=True, text=True, check=False)
-    wanted = ["out of memory, so nothing is known: check again with more"] * 9 + ["NO MEMORY"]
+    wanted = ["out of memory, so nothing is known: check again with more"] * 14 + ["NO MEMORY"]
     return [ended.stdout.splitlines() == wanted, ended.returncode == 4, ended.stderr == ""]
 
 
@@ -433,7 +508,7 @@ for text in memoryview(trace)[::2], None, "p":
 """
 
 
-def without_c(example):
+def without_c(example: Example) -> Any:
     """Whether the module gives its answers without the calls of C for buffers."""
     environment = {**os.environ, "PYTHONPATH": str(ROOT / "python")}
     ended = subprocess.run([sys.executable, "-c", WITHOUT_C, *example.files], env=environment, capture_output=True, text=True, check=False)
@@ -446,7 +521,7 @@ def without_c(example):
 class Pieces:
     """The pieces of a formula in canonical form and of a trace that is read: blocks, clauses, steps, and whether it ends in sat."""
 
-    def __init__(self, example):
+    def __init__(self, example: Example) -> None:
         words = iter(example.formatted.partition(b"\n")[2].split())
         self.blocks, self.clauses, self.steps = [], [], []
         for word in words:
@@ -464,7 +539,9 @@ class Pieces:
             else:
                 self.steps.append((int(word), up_to_zero(words), up_to_zero(words)))
 
-    def add_to(self, proof, kind=list, kind_of_antecedents=list, attempt=lambda call, *words, **flags: call(*words, **flags)):
+    def add_to(
+        self, proof: Any, kind: Any = list, kind_of_antecedents: Any = list, attempt: Any = lambda call, *words, **flags: call(*words, **flags)
+    ) -> None:
         """Hands all pieces over, their numbers as these kinds of lists; `attempt` makes the calls."""
         for universal, variables in self.blocks:
             for variable in variables:
@@ -474,7 +551,7 @@ class Pieces:
         for number, literals, antecedents in self.steps:
             attempt(proof.add_step, number, kind(literals), kind_of_antecedents(antecedents))
 
-    def add_at_once(self, proof, kind=list):
+    def add_at_once(self, proof: Any, kind: Any = list) -> None:
         """Hands all pieces over, the clauses in one call, as a list of this kind; the last clause lacks its 0, if it is not empty."""
         ended = [literal for clause in self.clauses for literal in (*clause, 0)]
         for universal, variables in self.blocks:
@@ -483,12 +560,12 @@ class Pieces:
         for number, literals, antecedents in self.steps:
             proof.add_step(number, literals, antecedents)
 
-    def texts(self):
+    def texts(self) -> Any:
         """The two texts as a proof writes them: the formula with its greatest variable, and the trace without sets."""
         bound = [variable for _, variables in self.blocks for variable in variables]
         last = max(bound, default=0)
 
-        def line(*numbers):
+        def line(*numbers: object) -> str:
             return " ".join(map(str, numbers))
 
         formula = [line("p cnf", last, len(self.clauses)), *(line("ea"[universal], *variables, 0) for universal, variables in self.blocks)]
@@ -498,17 +575,17 @@ class Pieces:
         return tuple("\n".join([*lines, ""]).encode() for lines in (formula, trace))
 
 
-def up_to_zero(words):
+def up_to_zero(words: Any) -> list[Any]:
     """The numbers before the next 0."""
     return [int(word) for word in iter(lambda: next(words), b"0")]
 
 
-def has_pieces(example):
+def has_pieces(example: Example) -> bool:
     """Whether both texts are read, and the sets of the trace, which are not handed over, agree with the prefix."""
     return example.status <= 1 and not example.line.startswith("REFUSED set")
 
 
-def core_of(call, *words, **flags):
+def core_of(call: Callable[..., Any], *words: Any, **flags: Any) -> Any:
     """The core that a call gives, or the line of its refusal."""
     try:
         return call(*words, **flags)
@@ -516,7 +593,7 @@ def core_of(call, *words, **flags):
         return error.verdict.line
 
 
-def is_handed_over(example):
+def is_handed_over(example: Example) -> bool:
     """Whether the pieces get the verdict and the core of the texts, a second time too, and with more steps that nothing needs."""
     pieces = Pieces(example)
     with qrp_check.Proof() as proof:
@@ -534,7 +611,7 @@ def is_handed_over(example):
     )
 
 
-def is_written(example):
+def is_written(example: Example) -> bool:
     """Whether the texts that a proof writes are those of its pieces, with the verdict and the trimmed trace of the example's texts.
 
     The proof's clauses are handed over in one call.
@@ -553,15 +630,16 @@ def is_written(example):
     return is_right and len(set(verdicts)) == 1 and is_verdict(verdicts[0], example)
 
 
-def many_clauses():
+def many_clauses() -> list[bool]:
     """Whether many clauses in one call are those of many calls, those before a refused one are added, and none out of range is an end."""
     wide, answers = "OUT_OF_RANGE", []
-    rows = [([1, 2, 0, -1, 0], None, [[1, 2], [-1]]), ([1, 2, 0, -1], None, [[1, 2], [-1]]), ([0, 0, 1], None, [[], [], [1]])]
+    kind: Any
+    rows: list[Any] = [([1, 2, 0, -1, 0], None, [[1, 2], [-1]]), ([1, 2, 0, -1], None, [[1, 2], [-1]]), ([0, 0, 1], None, [[], [], [1]])]
     rows += [([], None, []), ([1, 0, 3, 0, 2, 0], (2, "NOT_BOUND"), [[1]]), ([1, 0, -2, 0, 2**31, 0], (3, wide), [[1], [-2]])]
     rows += [([-(2**31), 0, 1], (1, wide), []), ([1, 2**32 + 1, 0, 2], (1, wide), []), ([2, 0, 1, -(2**40)], (2, wide), [[2]])]
     for literals, fault, clauses in rows:
         for kind in (list, iter, tuple, functools.partial(array.array, "q")):
-            with qrp_check.Proof() as proof:
+            with LOOSE.Proof() as proof:
                 proof.add_variables([1, 2], universal=False)
                 if fault is None:
                     answers.append(proof.add_clauses(kind(literals)) is None)
@@ -569,14 +647,14 @@ def many_clauses():
                     answers.append(refuses("clause", *fault, proof.add_clauses, kind(literals)))
                 lines = ["p cnf 2 %d" % len(clauses), "e 1 2 0", *(" ".join(map(str, [*clause, 0])) for clause in clauses), ""]
                 answers.append(proof.clauses == len(clauses) and proof.formula_text() == "\n".join(lines).encode())
-    literals = kinds_of_numbers("i")[0]
+    kinds = kinds_of_numbers("i")[0]
     with unittest.mock.patch.multiple(qrp_check._LentNumbers, _array=no_copy, _copied=no_copy), qrp_check.Proof() as proof:
         proof.add_variables([1], universal=False)
-        for count, kind in enumerate(literals, 1):
+        for count, kind in enumerate(kinds, 1):
             proof.add_clauses(kind([1, 0, -1]))
             answers.append(proof.clauses == 2 * count)
         proof.add_clauses([])
-        answers.append(proof.formula_text() == b"p cnf 1 %d\ne 1 0\n" % (2 * len(literals)) + b"1 0\n-1 0\n" * len(literals))
+        answers.append(proof.formula_text() == b"p cnf 1 %d\ne 1 0\n" % (2 * len(kinds)) + b"1 0\n-1 0\n" * len(kinds))
     with qrp_check.Proof() as proof:
         # More than the room of the first call.
         proof.add_variables(range(1, 20001), universal=True)
@@ -587,18 +665,18 @@ def many_clauses():
     return answers
 
 
-def unaligned(code):
+def unaligned(code: str) -> Any:
     """A kind of buffers of numbers that do not lie at a multiple of their size."""
     return lambda numbers: memoryview(b"x" + bytes(array.array(code, numbers)))[1:].cast(code)
 
 
-def kinds_of_numbers(code):
+def kinds_of_numbers(code: str) -> tuple[Any, Any]:
     """The kinds of lists that are taken for numbers of a type of C, those first that are not copied, and how many these are."""
-    of_c = {"i": ctypes.c_int32, "Q": ctypes.c_uint64}[code]
-    arrays = [lambda numbers: array.array(code, numbers), lambda numbers: memoryview(array.array(code, numbers))]
+    of_c: Any = {"i": ctypes.c_int32, "Q": ctypes.c_uint64}[code]
+    arrays: list[Any] = [lambda numbers: array.array(code, numbers), lambda numbers: memoryview(array.array(code, numbers))]
     arrays.append(lambda numbers: memoryview(bytes(array.array(code, numbers))).cast(code))
     arrays.append(lambda numbers: (of_c * len(numbers))(*numbers))
-    others = [tuple, iter, set, lambda numbers: array.array("q", numbers), unaligned(code)]
+    others: list[Any] = [tuple, iter, set, lambda numbers: array.array("q", numbers), unaligned(code)]
     others.append(lambda numbers: memoryview(array.array(code, [number for one in numbers for number in (one, 0)]))[::2])
     if numpy:
         arrays.append(lambda numbers: numpy.array(numbers, {"i": numpy.int32, "Q": numpy.uint64}[code]))
@@ -607,18 +685,18 @@ def kinds_of_numbers(code):
     return arrays, others
 
 
-def no_copy(_, name="", numbers=(0,), kind=None):
+def no_copy(_: Any, name: str = "", numbers: Any = (0,), kind: Any = None) -> Any:
     """Stands in for what copies numbers. Only an empty list may be: Python 3.9 gives an empty array of ctypes items of no size."""
     if len(numbers):
         raise AssertionError(f"{name} of the type of C are copied")
     return array.array(kind.code)
 
 
-def numbers_lent(example):
+def numbers_lent(example: Example) -> list[Any]:
     """Whether each kind of list gives the verdict, and numbers of the type of C are not copied."""
     pieces, answers = Pieces(example), []
 
-    def verdict(kind, kind_of_antecedents):
+    def verdict(kind: Any, kind_of_antecedents: Any) -> Any:
         with qrp_check.Proof() as proof:
             pieces.add_to(proof, kind, kind_of_antecedents)
             return is_verdict(proof.check(sat=pieces.sat, any_pivot=example.any_pivot), example)
@@ -629,7 +707,7 @@ def numbers_lent(example):
     return [*answers, *(verdict(*kinds) for kinds in zip(literals[1], antecedents[1]))]
 
 
-def refuses(piece, position, fault, call, *words, **flags):
+def refuses(piece: Any, position: Any, fault: Any, call: Callable[..., Any], *words: Any, **flags: Any) -> bool:
     """Whether the call raises PieceRefused with these fields, which another process would get too."""
     try:
         call(*words, **flags)
@@ -641,7 +719,7 @@ def refuses(piece, position, fault, call, *words, **flags):
     return False
 
 
-def pieces_refused():
+def pieces_refused() -> list[bool]:
     """Whether each piece that the library refuses is told with its fault and its place, and changes nothing."""
     least, most, wide = -(2**31), 2**64 - 1, "OUT_OF_RANGE"
     with qrp_check.Proof() as proof:
@@ -666,12 +744,12 @@ def pieces_refused():
     return answers
 
 
-def closed_proof():
+def closed_proof() -> list[Any]:
     """Whether a closed proof refuses each call but `close`, and the faults are those of the header, by their numbers."""
     proof = qrp_check.Proof()
     proof.close()
     proof.close()
-    calls = [(proof.add_variables, [[]], {"universal": True}), (proof.add_clause, [[]], {}), (proof.add_step, [3, []], {})]
+    calls: list[Any] = [(proof.add_variables, [[]], {"universal": True}), (proof.add_clause, [[]], {}), (proof.add_step, [3, []], {})]
     calls.append((proof.add_clauses, [[1]], {}))
     calls += [(call, [], {"sat": False}) for call in (proof.check, proof.core, proof.trace_text, proof.trimmed_text)]
     calls.append((proof.formula_text, [], {}))
@@ -681,10 +759,10 @@ def closed_proof():
     return [*answers, faults == [(number, fault) for number, (fault, _) in qrp_check._PIECE_FAULTS.items()]]
 
 
-def wrong_pieces():
+def wrong_pieces() -> list[Any]:
     """Whether the wrong use of a proof is refused with words that say what to do, and changes nothing."""
-    with qrp_check.Proof() as proof:
-        rows = [
+    with LOOSE.Proof() as proof:
+        rows: list[Any] = [
             (["universal", "True or False", "1"], proof.add_variables, [[1]], {"universal": 1}),
             (["variables", "whole numbers"], proof.add_variables, [[1, "2"]], {"universal": True}),
             (["variables", "not iterable"], proof.add_variables, [1], {"universal": True}),
@@ -706,11 +784,17 @@ def wrong_pieces():
         return [*answers, proof.add_clause([]) is None and proof.check(sat=False).fault == "C4"]
 
 
-def on_its_thread():
+def on_its_thread() -> list[Any]:
     """Whether a proof refuses each call from another thread, which changes nothing, and is not freed there."""
     with qrp_check.Proof() as proof, concurrent.futures.ThreadPoolExecutor(1) as pool:
         variables, check = functools.partial(proof.add_variables, [1], universal=True), functools.partial(proof.check, sat=False)
-        calls = [variables, functools.partial(proof.add_clause, []), functools.partial(proof.add_step, 1, []), check, proof.close]
+        calls: list[Callable[[], object]] = [
+            variables,
+            functools.partial(proof.add_clause, []),
+            functools.partial(proof.add_step, 1, []),
+            check,
+            proof.close,
+        ]
         calls += [functools.partial(proof.add_clauses, [0]), proof.formula_text, functools.partial(proof.trace_text, sat=True)]
         calls += [functools.partial(proof.trimmed_text, sat=False)]
         answers = [pool.submit(says, RuntimeError, ["thread"], call).result(60) for call in calls]
@@ -777,7 +861,7 @@ last.itself = last
 """
 
 
-def refused_in_turn(example, row):
+def refused_in_turn(example: Example, row: Any) -> list[Any]:
     """Whether each call of the library on a proof that is refused memory raises MemoryError and can be made again, to the same verdict."""
     environment = {**os.environ, "PYTHONPATH": str(ROOT / "python")}
     with tempfile.NamedTemporaryFile("w") as file:
@@ -794,20 +878,27 @@ def refused_in_turn(example, row):
     return [ended.stdout.splitlines() == wanted, ended.stderr == "", ended.returncode == 0]
 
 
-def best_time(cases):
+def best_time(cases: list[Example]) -> int:
     """The best of twenty runs over all cases, in microseconds."""
-    best = None
+    best = float("inf")
     for _ in range(20):
         began = time.perf_counter()
         for case in cases:
             qrp_check.verify(case.formula, case.trace, any_pivot=case.any_pivot)
         took = time.perf_counter() - began
-        best = took if best is None else min(best, took)
+        best = min(best, took)
     return round(best * 1e6)
 
 
-def main(words):
+def main(words: Any) -> None:
     cases = list(examples(words[-1]))
+    if words[0] == "gates":
+        answers = [bool(is_gates_answered(case)) for case in cases]
+        for case in (case for case, is_right in zip(cases, answers) if not is_right):
+            print(f"FAILED: in Python, of gates: wanted {case.status} {case.line}")
+        print(f"in Python: {len(cases)} cases of gates")
+        print(answers.count(True), answers.count(False))
+        return
     if len(words) > 1:
         print(best_time(cases))
         return

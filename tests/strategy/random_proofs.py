@@ -25,7 +25,8 @@ class Proof:
     def make_blocks(self) -> list[tuple[str, list[int]]]:
         variables = list(range(1, self.random.randint(3, 8) + 1))
         self.random.shuffle(variables)
-        letter, blocks = self.random.choice("ae"), []
+        blocks: list[tuple[str, list[int]]] = []
+        letter = self.random.choice("ae")
         while variables:
             size = self.random.randint(1, 3)
             block, variables = variables[:size], variables[size:]

@@ -6,20 +6,23 @@ They are made from pairs of tests/traces without chance, so each run tries the s
 import bz2
 import gzip
 import re
+from collections.abc import Iterator, Sequence
+
+Damages = Iterator[tuple[str, bytes, bytes]]
 
 
-def lines_of(data):
+def lines_of(data: bytes) -> list[bytes]:
     return data.splitlines(keepends=True)
 
 
-def replaced(data, old, new, nth=0):
+def replaced(data: bytes, old: bytes, new: bytes, nth: int = 0) -> bytes:
     """The text with one occurrence of a line's pattern changed."""
     found = list(re.finditer(old, data, re.MULTILINE))
     place = found[min(nth, len(found) - 1)]
     return data[: place.start()] + place.expand(new) + data[place.end() :]
 
 
-def looks(formula, trace):
+def looks(formula: bytes, trace: bytes) -> Damages:
     """Files of other kinds in the place of each."""
     kinds = [
         ("empty", b""),
@@ -55,7 +58,7 @@ def looks(formula, trace):
     yield "no header of the trace", formula, trace[trace.index(b"\n") + 1 :]
 
 
-def cut(formula, trace):
+def cut(formula: bytes, trace: bytes) -> Damages:
     """Each text cut at some places."""
     for share in range(1, 12):
         yield f"formula cut at {share} of 12", formula[: len(formula) * share // 12], trace
@@ -88,7 +91,7 @@ WORDS = [
 ]
 
 
-def words(formula, trace):
+def words(formula: bytes, trace: bytes) -> Damages:
     """A word put among the clauses, among the sets, and among the steps."""
     for word in WORDS:
         name = word.decode(errors="replace")
@@ -104,8 +107,10 @@ def words(formula, trace):
         yield f"'{name}' in the trace's header", formula, replaced(trace, rb"^(p qrp) \d+", rb"\1 " + word)
 
 
-def header_and_sets(formula, trace):
-    variables, clauses = map(int, re.search(rb"^p cnf (\d+) (\d+)", formula, re.MULTILINE).groups())
+def header_and_sets(formula: bytes, trace: bytes) -> Damages:
+    header = re.search(rb"^p cnf (\d+) (\d+)", formula, re.MULTILINE)
+    assert header
+    variables, clauses = map(int, header.groups())
     for more in (-2, -1, 1, 2):
         yield f"{more} clauses in the header", replaced(formula, rb"^(p cnf \d+) \d+", rb"\1 %d" % (clauses + more)), trace
         yield f"{more} variables in the header", replaced(formula, rb"^(p cnf) \d+", rb"\1 %d" % (variables + more)), trace
@@ -131,18 +136,19 @@ def header_and_sets(formula, trace):
     yield "CRLF", formula.replace(b"\n", b"\r\n"), trace.replace(b"\n", b"\r\n")
 
 
-def steps(formula, trace):
+def steps(formula: bytes, trace: bytes) -> Damages:
     texts = lines_of(trace)
     first = next(place for place, text in enumerate(texts) if text[:1].isdigit())
     last = len(texts) - 2
     for place in range(first, last + 1, max(1, (last - first) // 12)):
-        number, literals, antecedents = re.fullmatch(rb"(\d+)((?: -?[1-9]\d*)*) 0((?: \d+)*?) 0\n", texts[place]).groups()
-        literals, antecedents = literals.split(), antecedents.split()
+        found = re.fullmatch(rb"(\d+)((?: -?[1-9]\d*)*) 0((?: \d+)*?) 0\n", texts[place])
+        assert found
+        number, literals, antecedents = found[1], found[2].split(), found[3].split()
 
-        def changed(*lines):
+        def changed(*lines: bytes) -> tuple[bytes, bytes]:
             return formula, b"".join([*texts[:place], *lines, *texts[place + 1 :]])
 
-        def step(literals, antecedents, number=number):
+        def step(literals: Sequence[bytes], antecedents: Sequence[bytes], number: bytes = number) -> bytes:
             return b" ".join([number, *literals, b"0", *antecedents, b"0"]) + b"\n"
 
         name = f"step {number.decode()}"
@@ -173,6 +179,6 @@ def steps(formula, trace):
     yield "a formula after the sets, as of --pretty-print", formula, b"".join([*texts[:first], formula, *texts[first:]])
 
 
-def damaged_pairs(formula, trace):
+def damaged_pairs(formula: bytes, trace: bytes) -> Damages:
     for kind in (looks, cut, words, header_and_sets, steps):
         yield from kind(formula, trace)

@@ -1,7 +1,9 @@
 """Formulas of gates for the tests: random texts in QCIR-14, and what they say by trying all values of the variables. No clause is made, and nothing
 is shared with the tools or the programs."""
 
+import random
 import re
+from typing import Any, Optional
 
 LINE = re.compile(r"\s*(\w+)\s*(?:=\s*(\w+)\s*)?\((.*)\)\s*")
 KINDS = {
@@ -15,12 +17,14 @@ KINDS = {
 class GateFormula:
     """A formula of gates of a text that is right: its variables with their quantifiers, its gates in order, and its output."""
 
-    def __init__(self, text):
+    def __init__(self, text: str) -> None:
         self.prefix, self.gates, self.output = [], [], ""
         for line in text.split("\n")[1:]:
             if not line.strip() or line.lstrip().startswith("#"):
                 continue
-            name, kind, inside = LINE.fullmatch(line).groups()
+            parts = LINE.fullmatch(line)
+            assert parts, line
+            name, kind, inside = parts.groups()
             words = ["".join(word.split()) for word in inside.split(",")] if inside.strip() else []
             if kind:
                 self.gates.append((name, kind, words))
@@ -29,18 +33,18 @@ class GateFormula:
             else:
                 self.prefix += [(name[0].replace("f", "a"), word) for word in words]
 
-    def values(self, given):
+    def values(self, given: dict[str, bool]) -> dict[str, bool]:
         """The values of all names, by those of the variables."""
         found = dict(given)
         for name, kind, words in self.gates:
             found[name] = KINDS[kind]([found[word.lstrip("-")] != word.startswith("-") for word in words])
         return found
 
-    def holds(self, given):
+    def holds(self, given: dict[str, bool]) -> bool:
         """Whether the output is true."""
         return self.values(given)[self.output.lstrip("-")] != self.output.startswith("-")
 
-    def truth(self, given=None):
+    def truth(self, given: Optional[dict[str, bool]] = None) -> bool:
         """Whether the formula is true, if these values are given to the variables of a part of the prefix."""
         given = given or {}
         if len(given) == len(self.prefix):
@@ -50,12 +54,13 @@ class GateFormula:
         return any(answers) if quantifier == "e" else all(answers)
 
 
-def random_formula(pick):
+def random_formula(pick: random.Random) -> str:
     """A random text: gates of all kinds, also wide, empty and of one input, with inputs that are repeated and negated; at times the output is a
     variable; names may be numbers and words of the format, and blanks and comments stand here and there."""
     count = pick.randint(1, 7)
     pool = ["and", "xor", "output", "1", "22", "_", "a", "A", "x1", "exists", "b_0", "ite", "G", "g", "free", "7", "z", "name", "QCIR", "14", "003"]
     names = pick.sample(pool, len(pool)) + [f"n{number}" for number in range(40)]
+    known: list[Any]
     lines, known, blank = [pick.choice(("#QCIR-14", "#QCIR-G14", "#QCIR-14 9"))], [], pick.choice(("", " ", "\t"))
     rest = names[:count]
     while rest:

@@ -15,13 +15,17 @@ import signal
 import subprocess
 import sys
 import tempfile
+from collections.abc import Callable, Sequence
 from pathlib import Path
+from typing import Any, Union
 
 ROOT = Path(__file__).resolve().parents[2]
 sys.path[:0] = [str(ROOT / "tests"), str(ROOT / "tools")]
 sys.dont_write_bytecode = True
 from damaged_pairs import damaged_pairs  # noqa: E402
 from expect import expect, finish, skip  # noqa: E402
+
+Program = Union[str, Path]
 
 CHECK, EXPLAIN = ROOT / "tools" / "check", ROOT / "tools" / "explain"
 TRACES = ROOT / "tests" / "traces"
@@ -33,12 +37,12 @@ UNPACKED = {"gz": gzip.compress, "bz2": bz2.compress, "xz": lzma.compress}
 class Use:
     """Uses of the tool with a folder of its own, in which nothing may be left behind."""
 
-    def __init__(self, folder, program):
+    def __init__(self, folder: str, program: Program) -> None:
         self.folder, self.program, self.temporary = Path(folder), program, Path(folder) / "temporary"
         self.temporary.mkdir()
         self.environment = dict(os.environ, QRP_CMD=str(program), TMPDIR=str(self.temporary), PYTHONDONTWRITEBYTECODE="1")
 
-    def run(self, *words, **options):
+    def run(self, *words: object, **options: Any) -> tuple[int, str, str]:
         options = {"stdin": subprocess.DEVNULL, "env": self.environment, **options}
         if "input" in options:
             del options["stdin"]
@@ -49,17 +53,17 @@ class Use:
         expect(f"check {words}: no traceback, and nothing is left", "Traceback" not in said[1] and not list(self.temporary.iterdir()), said)
         return ended.returncode, *said
 
-    def program_says(self, *words):
+    def program_says(self, *words: object) -> tuple[int, str]:
         ended = subprocess.run([self.program, "check", *map(str, words)], capture_output=True, check=False)
         return ended.returncode, ended.stdout.decode()
 
-    def file(self, name, data):
+    def file(self, name: str, data: bytes) -> Path:
         path = self.folder / name
         path.write_bytes(data)
         return path
 
 
-def try_lines(use):
+def try_lines(use: Use) -> None:
     """The line and the status of the program, and the words of explain on the standard error if it is not VERIFIED."""
     pairs = [pair for pair in damaged_pairs(FORMULA.read_bytes(), TRACE.read_bytes()) if pair[0].split()[0] not in ("gzip", "bzip2", "xz", "zstd")]
     for number, (name, formula, trace) in enumerate([("whole", FORMULA.read_bytes(), TRACE.read_bytes()), *pairs[:: max(1, len(pairs) // 30)]]):
@@ -79,9 +83,9 @@ def try_lines(use):
         expect(f"{name}: JSON", json.loads(found) == {**as_json, "expected": None}, (found, as_json))
 
 
-def try_compressed(use):
+def try_compressed(use: Use) -> None:
     """Compressed files are unpacked by a pipe, by their first bytes and not by their names."""
-    names = dict(UNPACKED)
+    names: dict[str, Callable[[bytes], bytes]] = {"gz": gzip.compress, "bz2": bz2.compress, "xz": lzma.compress}
     if shutil.which("zstd"):
         names["zst"] = lambda data: subprocess.run(["zstd", "-qc"], input=data, capture_output=True, check=True).stdout
     else:
@@ -118,8 +122,9 @@ def try_compressed(use):
         expect(f"{ending}: nothing that unpacks it", status == 3 and "is compressed, and there is no " in said and "apt-get install " in said, said)
 
 
-def try_input(use):
+def try_input(use: Use) -> None:
     """The standard input, and pipes."""
+    words: Any
     for name, words, data in (
         ("the trace", [FORMULA, "-"], TRACE.read_bytes()),
         ("the formula", ["-", TRACE], FORMULA.read_bytes()),
@@ -149,7 +154,7 @@ def try_input(use):
     expect("two pipes", (ended.returncode, ended.stdout, ended.stderr) == (0, "VERIFIED false\n", ""), ended)
 
 
-def try_expected(use):
+def try_expected(use: Use) -> None:
     for files, truth in ((FORMULA, TRACE), "false"), (TRUE, "true"):
         for wanted in "true", "false":
             status, out, said = use.run("--expect", wanted, *files)
@@ -161,9 +166,10 @@ def try_expected(use):
     expect("a refused proof with a truth that is expected", use.run("--expect", "false", FORMULA, refused)[:2] == (1, "REFUSED trace C4\n"))
 
 
-def try_statuses(use):
+def try_statuses(use: Use) -> None:
     """The statuses are those of the program, also for what is wrong with the tool's own words and output."""
     missing = use.folder / "none"
+    words: Any
     for words, status, line, said in (
         ([missing, TRACE], 3, "DEVICE formula\n", "No such file or directory."),
         ([FORMULA, use.folder], 3, "DEVICE trace\n", "Is a directory."),
@@ -199,7 +205,7 @@ def try_statuses(use):
     expect("a step with names", ended[:2] == (1, "REFUSED step 117 S12\n") and "-carry_in" in ended[2], ended)
 
 
-def try_progress(use):
+def try_progress(use: Use) -> None:
     """At a terminal it is shown how much was read, if the check takes long; nowhere else, and not if it is short."""
     slow = use.file("slow", b'#!/bin/sh\nexec 3<"$2"\nhead -c 100 <&3 >/dev/null\nsleep 3\necho VERIFIED false\n')
     slow.chmod(0o755)
@@ -224,7 +230,7 @@ def try_progress(use):
     expect("a long check without a terminal", ended == (0, "VERIFIED false\n", ""), ended)
 
 
-def try_typed(use):
+def try_typed(use: Use) -> None:
     """What is typed at a terminal is read."""
     master, slave = pty.openpty()
     os.write(master, TRACE.read_bytes() + b"\x04")
@@ -240,7 +246,7 @@ def try_typed(use):
     expect("a trace that is typed", (out, said) == (b"VERIFIED false\n", b""), (out, said))
 
 
-def main():
+def main() -> int:
     signal.signal(signal.SIGINT, signal.default_int_handler)
     for part in try_lines, try_compressed, try_input, try_expected, try_statuses, try_progress, try_typed:
         with tempfile.TemporaryDirectory() as folder:

@@ -10,12 +10,17 @@ import shutil
 import subprocess
 import sys
 import tempfile
+from collections.abc import Sequence
 from pathlib import Path
+from typing import Any, Union
 
 ROOT = Path(__file__).resolve().parents[2]
 sys.path[:0] = [str(ROOT / "tests")]
 sys.dont_write_bytecode = True
 from expect import expect, finish, skip  # noqa: E402
+
+Ended = subprocess.CompletedProcess[Any]
+Program = Union[str, Path]
 
 TOOL = ROOT / "tools" / "drat-to-qrp"
 RANDOM_FORMULAS = 30
@@ -60,21 +65,21 @@ WRONG = [
 class Use:
     """Uses of the tool with this program, in a folder."""
 
-    def __init__(self, program, folder):
+    def __init__(self, program: Program, folder: str) -> None:
         self.program, self.folder = program, Path(folder)
 
-    def write(self, name, text):
+    def write(self, name: str, text: str) -> Path:
         path = self.folder / name
         path.write_text(text)
         return path
 
-    def made(self, formula, proof):
+    def made(self, formula: Path, proof: Path) -> Ended:
         return subprocess.run([sys.executable, TOOL, formula, proof], capture_output=True, text=True, check=False, timeout=300)
 
-    def line(self, formula, trace):
+    def line(self, formula: Path, trace: str) -> str:
         return subprocess.run([self.program, "check", formula, self.write("trace", trace)], capture_output=True, text=True, check=False).stdout
 
-    def verified(self, name, formula, proof):
+    def verified(self, name: str, formula: Path, proof: Path) -> list[str]:
         """Expects that the trace of a proof is verified, and returns its lines."""
         ended = self.made(formula, proof)
         expect(f"drat, {name}: ends well", (ended.returncode, ended.stderr) == (0, ""), ended)
@@ -83,7 +88,7 @@ class Use:
         return ended.stdout.splitlines()
 
 
-def try_right(use):
+def try_right(use: Use) -> None:
     for name, formula, proof, steps in RIGHT:
         lines = use.verified(name, use.write("formula", formula), use.write("proof", proof))
         numbers = [line for line in lines if line[0].isdigit()]
@@ -95,7 +100,9 @@ def try_right(use):
                 expect(f"drat, {name}: a step without its second antecedent is refused", line.startswith("REFUSED "), (changed, line))
 
 
-def try_wrong(use):
+def try_wrong(use: Use) -> None:
+    formula: Any
+    proof: Any
     for name, formula, proof, said in WRONG:
         path = use.write("proof", proof)
         ended = use.made(use.write("formula", formula), path)
@@ -106,6 +113,7 @@ def try_wrong(use):
         expect(f"drat, {name}", holds and (str(path) in ended.stderr or "formula has" in said), ended)
     missing = use.folder / "missing"
     formula, proof = use.write("formula", TWO), use.write("proof", "1 0\n0\n")
+    words: Any
     for words in [missing, proof], [formula, missing]:
         ended = use.made(*words)
         expect(f"drat, no file {words}", ended.returncode == 2 and "cannot be read: No such file" in ended.stderr and not ended.stdout, ended)
@@ -118,7 +126,7 @@ def try_wrong(use):
         expect(f"drat, the words {words}", done.returncode == 2 and done.stderr.startswith("usage: "), done)
 
 
-def try_solver(use):
+def try_solver(use: Use) -> None:
     """Refutations that a solver writes of random formulas, by all of its techniques and plain."""
     if not shutil.which("cadical"):
         skip("refutations of cadical", "there is no cadical")
@@ -132,7 +140,7 @@ def try_solver(use):
         text = "".join(" ".join(map(str, [*clause, 0])) + "\n" for clause in clauses)
         head, prefix = f"p cnf {count} {len(clauses)}\n", f"e {' '.join(map(str, range(1, count + 1)))} 0\n"
         formula, plain, proof = use.write("formula", head + prefix + text), use.write("plain", head + text), use.folder / "proof"
-        options = pick.choice(([], ["--plain"]))
+        options: Any = pick.choice(([], ["--plain"]))
         done = subprocess.run(["cadical", "-q", "--no-binary", *options, plain, proof], capture_output=True, check=False)
         if done.returncode == 20:
             found += 1
@@ -143,7 +151,7 @@ def try_solver(use):
 LEAST = 170
 
 
-def main():
+def main() -> int:
     program = os.path.abspath(sys.argv[1])
     for part in try_right, try_wrong, try_solver:
         with tempfile.TemporaryDirectory() as folder:

@@ -15,7 +15,10 @@ import re
 import subprocess
 import sys
 import tempfile
+from collections.abc import Collection, Iterable, Iterator, Sequence
 from pathlib import Path
+from types import ModuleType
+from typing import Any, Optional, Union
 
 ROOT = Path(__file__).resolve().parents[2]
 sys.path[:0] = [str(ROOT / "tests"), str(ROOT / "tools")]
@@ -24,9 +27,13 @@ from damaged_pairs import damaged_pairs  # noqa: E402
 from expect import expect, finish, skip  # noqa: E402
 from pages import blocks  # noqa: E402
 from qrptools.explaining import explanation  # noqa: E402
-from qrptools.explaining.advice import ADVICE, KINDS, NEXT, ROWS, advice_for  # noqa: E402
+from qrptools.explaining.advice import ADVICE, ROWS, advice_for  # noqa: E402
 from qrptools.step_rules import CONDITIONS  # noqa: E402
 from random_proofs import truth  # noqa: E402
+
+Ended = subprocess.CompletedProcess[Any]
+Program = Union[str, Path]
+Steps = Sequence[tuple[Collection[int], Sequence[int]]]
 
 EXPLAIN = ROOT / "tools" / "explain"
 LINES = {*(f"F{n}" for n in range(2, 9)), *(f"P{n}" for n in range(2, 9)), *(f"C{n}" for n in range(1, 5)), *(f"S{n}" for n in range(1, 13))}
@@ -81,15 +88,17 @@ SENTENCES = {
 }
 
 
-def load():
+def load() -> ModuleType:
     """The script as a module, so that it need not be started a thousand times."""
     loader = importlib.machinery.SourceFileLoader("explain", str(EXPLAIN))
-    module = importlib.util.module_from_spec(importlib.util.spec_from_loader("explain", loader))
+    spec = importlib.util.spec_from_loader("explain", loader)
+    assert spec
+    module = importlib.util.module_from_spec(spec)
     loader.exec_module(module)
     return module
 
 
-def explained(module, *words):
+def explained(module: ModuleType, *words: object) -> tuple[int, str, str]:
     """The status, and what is printed."""
     sys.argv = [str(EXPLAIN), *map(str, words)]
     out, err = io.StringIO(), io.StringIO()
@@ -98,11 +107,11 @@ def explained(module, *words):
     return status, out.getvalue(), err.getvalue()
 
 
-def note_topics():
+def note_topics() -> set[tuple[str, Optional[str]]]:
     """The topics of the advice that is given from here on."""
     topics = set()
 
-    def noted(fault, cause, number=None):
+    def noted(fault: str, cause: Optional[str], number: Optional[int] = None) -> Optional[str]:
         topics.add((fault, cause))
         return advice_for(fault, cause, number)
 
@@ -110,7 +119,7 @@ def note_topics():
     return topics
 
 
-def ends_with_advice(out, fault):
+def ends_with_advice(out: str, fault: Optional[str]) -> bool:
     """Whether a text ends with an advice for this fault, or for a kind of file; or if nothing is refused, for what is next."""
     texts = [advice for (named, _), advice in ADVICE.items() if named in ((fault, "kind") if fault else ("VERIFIED",))]
     patterns = (
@@ -119,18 +128,18 @@ def ends_with_advice(out, fault):
     return any(re.search(f"What you can do:\n  {pattern}\\.\n\\Z", out) for pattern in patterns)
 
 
-def run(*words, program, **options):
+def run(*words: object, program: Program, **options: Any) -> Ended:
     environment = dict(os.environ, QRP_CMD=str(program))
     return subprocess.run([sys.executable, EXPLAIN, *map(str, words)], capture_output=True, text=True, env=environment, check=False, **options)
 
 
-def fault_of(line):
+def fault_of(line: str) -> Optional[str]:
     """The name of the fault of a line, as the tables of docs/REFUSED.md have it."""
     found = re.search(r"\b([SFPCQ]\d+)\b", line)
     return found[1] if found else None
 
 
-def reads_alike(module, line, formula, trace):
+def reads_alike(module: ModuleType, line: str, formula: Any, trace: Any) -> bool:
     """Whether the script finds the fault of a text without knowing that any line of it is right."""
     found = re.fullmatch(r"REFUSED (formula|trace) ([FP]\d) line (\d+)", line)
     if not found:
@@ -139,7 +148,7 @@ def reads_alike(module, line, formula, trace):
     return str(fault) == f"{found[2]} in line {found[3]}"
 
 
-def try_line(module, name, line, flags, files):
+def try_line(module: ModuleType, name: str, line: str, flags: Sequence[str], files: Sequence[Any]) -> str:
     """One explanation: it begins with the program's line and ends with the advice for its fault."""
     status, out, err = explained(module, *flags, *files)
     first = f"qrp_cmd says: {line}\n\n" if line else "qrp_cmd prints no line.\n\n"
@@ -149,7 +158,7 @@ def try_line(module, name, line, flags, files):
     return out
 
 
-def try_json(module, name, line, files):
+def try_json(module: ModuleType, name: str, line: str, files: Sequence[Any]) -> None:
     """The explanation as JSON says what the text says, and the place that the program names."""
     _, text, _ = explained(module, *files)
     status, out, err = explained(module, "--json", *files)
@@ -158,7 +167,7 @@ def try_json(module, name, line, files):
     advice = text.rpartition("What you can do:\n  ")[2][:-2]
     expect(f"{name}: JSON, what is said", found["advice"] == advice and all(sentence in text for sentence in found["found"][:6]), (text, out))
     words = line.split()
-    wanted = {"fault": fault_of(line)}
+    wanted: dict[str, Any] = {"fault": fault_of(line)}
     if words[1:2] in (["formula"], ["trace"]) and "line" in words:
         wanted |= {"file": words[1], "line": int(words[-1])}
     elif words[1:2] == ["step"]:
@@ -174,7 +183,7 @@ def try_json(module, name, line, files):
         expect(f"{name}: JSON, the column", there.startswith(shown.encode()), (text, found))
 
 
-def try_rows(module, rows):
+def try_rows(module: ModuleType, rows: Iterable[Any]) -> None:
     """Each row is explained, and the program's fault found."""
     seen = set()
     for row in rows:
@@ -184,7 +193,7 @@ def try_rows(module, rows):
     expect("the rows have all faults", LINES <= seen, sorted(LINES - seen))
 
 
-def try_damages(module, program, pairs):
+def try_damages(module: ModuleType, program: Program, pairs: Iterable[Any]) -> None:
     """Damaged proofs are explained as the program refuses them."""
     seen, tried, said = set(), 0, set()
     with tempfile.TemporaryDirectory() as folder:
@@ -207,15 +216,16 @@ def try_damages(module, program, pairs):
     expect("each sentence was looked for", said == set(SENTENCES), set(SENTENCES) - said)
 
 
-def advised(module, fault, cause):
+def advised(module: ModuleType, fault: str, cause: Optional[str]) -> str:
     """The end of a text with this advice, which is noted as given."""
     return f"What you can do:\n  {explanation.advice_for(fault, cause)}.\n"
 
 
-def try_devices(program, module):
+def try_devices(program: Program, module: ModuleType) -> None:
     """Files that cannot be read, names that are no text, and memory that is refused."""
     formula, trace = ROOT / "examples" / "two_clauses.qdimacs", ROOT / "examples" / "two_clauses.qrp"
     with tempfile.TemporaryDirectory() as folder:
+        words: Any
         for name, words, line, sentence, cause in (
             ("no formula", ["/nonexistent", trace], "DEVICE formula", "No such file or directory.", None),
             ("a folder", [formula, folder], "DEVICE trace", "Is a directory.", None),
@@ -248,7 +258,7 @@ def try_devices(program, module):
         expect("the program is killed", ended.returncode == 0 and "signal 9 (SIGKILL) ended it" in ended.stdout, ended)
 
 
-def try_disagreement(program):
+def try_disagreement(program: Program) -> None:
     """A program that names another fault than the script finds is not believed, and neither is the script."""
     formula, trace = ROOT / "examples" / "two_clauses.qdimacs", ROOT / "examples" / "two_clauses.qrp"
     refused = ["step 5 S8", "step 9 S8", "set C2 variable 1", "trace C4", "formula F6 line 3", "trace P7 line 2"]
@@ -261,7 +271,7 @@ def try_disagreement(program):
             expect(f"a program that says {line}", ended.returncode == 1 and ended.stderr.startswith(f"{EXPLAIN}: qrp_cmd "), ended)
 
 
-def try_words(program):
+def try_words(program: Program) -> None:
     """Command lines that are wrong end with status 2, and a step that is not there with 1."""
     formula, trace = ROOT / "examples" / "two_clauses.qdimacs", ROOT / "examples" / "two_clauses.qrp"
     wrong = [
@@ -281,6 +291,7 @@ def try_words(program):
         ["--mend", "/nonexistent"],
     ]
     wrong += [[formula, "/nonexistent", "1"], ["/nonexistent", trace, "1"], ["--close", "/nonexistent"]]
+    words: Any
     for words in wrong:
         ended = run(*words, program=program)
         expect(f"usage: {words}", ended.returncode == 2 and not ended.stdout and ended.stderr, ended)
@@ -297,7 +308,7 @@ def try_words(program):
     expect("a pipe", ended.returncode == 0 and ended.stdout.startswith("qrp_cmd says: REFUSED step 3 S7\n"), ended)
 
 
-def try_closing(program):
+def try_closing(program: Program) -> None:
     """The closed formula has its free variables outermost, and is read."""
     texts = [
         (b"p cnf 3 2\n1 2 0\n-1 3 0\n", "p cnf 3 2\ne 1 2 3 0\n1 2 0\n-1 3 0\n"),
@@ -313,15 +324,16 @@ def try_closing(program):
             ended = run("--close", free, program="/nonexistent")
             closed.write_text(ended.stdout)
             printed = subprocess.run([program, "format", closed], capture_output=True, text=True, check=False).stdout
-            expect(f"{text} closed", ended.returncode == 0 and printed == wanted, (ended, printed))
+            expect(f"{text!r} closed", ended.returncode == 0 and printed == wanted, (ended, printed))
 
 
-def try_innermost(program):
+def try_innermost(program: Program) -> None:
     """A forgotten gate goes into the last set; a verdict on the other formula is one on another question. What was bound is said."""
     text = b"p cnf 3 3\na 1 2 0\n-3 1 0\n-3 2 0\n3 -1 -2 0\n"
     more = b"p cnf 4 3\na 1 0\ne 2 0 -3 1 0\n3 -1 2 0\n4 3 0\n"
     with tempfile.TemporaryDirectory() as folder:
         file, closed = Path(folder) / "gate", Path(folder) / "closed"
+        place: Any
         for data, place, wanted, said in (
             (
                 text,
@@ -344,7 +356,7 @@ def try_innermost(program):
             ended = run("--close", *place, file, program="/nonexistent")
             closed.write_text(ended.stdout)
             printed = subprocess.run([program, "format", closed], capture_output=True, text=True, check=False).stdout
-            expect(f"--close {place} of {data}", ended.returncode == 0 and printed.startswith(wanted) and said in ended.stderr, (ended, printed))
+            expect(f"--close {place} of {data!r}", ended.returncode == 0 and printed.startswith(wanted) and said in ended.stderr, (ended, printed))
         truths = [truth([("e", 3), ("a", 1), ("a", 2)], CLAUSES), truth([("a", 1), ("a", 2), ("e", 3)], CLAUSES)]
         expect("the two formulas of the page have other truths", truths == [False, True], truths)
         (Path(folder) / "innermost").write_bytes(text)
@@ -355,10 +367,11 @@ def try_innermost(program):
 CLAUSES = [[-3, 1], [-3, 2], [3, -1, -2]]
 
 
-def try_mending(program):
+def try_mending(program: Program) -> None:
     """A header that lies is mended, and nothing else is changed; a text with another fault is not written."""
     with tempfile.TemporaryDirectory() as folder:
         file = Path(folder) / "f"
+        ended: Ended
         for text, wanted, said in (
             (
                 b"c p cnf 9 9\np cnf 1 1\ne 1 2 0\n1 2 0\n-1 -2 0\n",
@@ -371,7 +384,7 @@ def try_mending(program):
         ):
             file.write_bytes(text)
             ended = subprocess.run([sys.executable, EXPLAIN, "--mend", file], capture_output=True, check=False)
-            expect(f"--mend of {text}", (ended.returncode, ended.stdout) == (0, wanted) and said in ended.stderr.decode(), ended)
+            expect(f"--mend of {text!r}", (ended.returncode, ended.stdout) == (0, wanted) and said in ended.stderr.decode(), ended)
         for text, fault in (
             (b"p cnf 2 2\ne 1 2 0\n1 2 0\n-1", "F7 in line 4"),
             (b"p cnf 2 1\ne 1 1 0\n1 0\n", "F5 in line 2"),
@@ -383,13 +396,13 @@ def try_mending(program):
             file.write_bytes(text)
             ended = run("--mend", file, program="/nonexistent")
             expect(
-                f"--mend of {text}",
+                f"--mend of {text!r}",
                 ended.returncode == 1 and not ended.stdout and f"the formula has {fault}: '{EXPLAIN} FORMULA' says why" in ended.stderr,
                 ended,
             )
 
 
-def try_needed(program):
+def try_needed(program: Program) -> None:
     """Whether the proof needs a step that is asked for, in words and in JSON; and what a refusal of memory says of the sizes."""
     files = ROOT / "examples" / "blind-box" / "blind-box.qdimacs", ROOT / "examples" / "blind-box" / "blind-box.qrp"
     trimmed = {line.split()[0] for line in (ROOT / "examples" / "blind-box" / "blind-box.trimmed.qrp").read_text().splitlines() if line[:1].isdigit()}
@@ -410,7 +423,7 @@ def try_needed(program):
         expect("memory is refused: the sizes", said in ended.stdout, ended)
 
 
-def try_step_names(program):
+def try_step_names(program: Program) -> None:
     """The table of a step has the user's names."""
     box = ROOT / "examples" / "blind-box" / "blind-box"
     ended = run("--names", f"{box}.names", f"{box}.qdimacs", f"{box}.qrp", "124", program=program)
@@ -424,14 +437,12 @@ def try_step_names(program):
     expect("no names", ended.returncode == 2 and "/nonexistent cannot be read" in ended.stderr, ended)
 
 
-def try_pages(program):
-    """docs/REFUSED.md has the tables of the script, its commands print what the page says, and the conditions are those of docs/RULES.md."""
+def try_pages(program: Program) -> None:
+    """docs/REFUSED.md has the faults of the script, its commands print what the page says, and the conditions are those of docs/RULES.md."""
     text = (ROOT / "docs" / "REFUSED.md").read_text()
-    rows = re.findall(r"^\| ((?:[SFPCQ]\d+|DEVICE|NO MEMORY|USAGE)) \| (.*) \| (.*) \|$", text, re.MULTILINE)
+    shared = re.findall(r"^\| ((?:[SFPCQ]\d+|, )+|DEVICE|NO MEMORY|USAGE) \| (.*) \| (.*) \|$", text, re.MULTILINE)
+    rows = [(fault, found, advice) for faults, found, advice in shared for fault in faults.split(", ")]
     expect("docs/REFUSED.md: the tables", sorted(rows) == sorted((fault, found, advice) for fault, _, found, advice in ROWS), rows)
-    for title, wanted in ("What the file is | What you can do", [row[1:] for row in KINDS]), ("Line | What you can do next", NEXT):
-        table = re.search(rf"^\| {re.escape(title)} \|\n\|---\|---\|\n((?:\|.*\n)+)", text, re.MULTILINE)[1]
-        expect(f"docs/REFUSED.md: {title}", table.splitlines() == [f"| {found} | {advice} |" for found, advice in wanted], table)
     rules = (ROOT / "docs" / "RULES.md").read_text()
     for fault, condition in CONDITIONS.items():
         expect(f"docs/RULES.md: {fault}", re.search(rf"^\| {fault} \| {re.escape(condition)}(;.*)? \|$", rules, re.MULTILINE))
@@ -446,8 +457,8 @@ def try_pages(program):
             lines = block.rstrip().splitlines()
             commands = [line[2:] for line in lines if line.startswith("$ ")]
             page = "\n".join(line for line in lines if not line.startswith("$ "))
-            options = {"stdout": subprocess.PIPE, "stderr": subprocess.STDOUT, "text": True, "env": environment}
-            printed = subprocess.run(["bash", "-c", "\n".join(commands)], cwd=folder, check=False, **options)
+            words = ["bash", "-c", "\n".join(commands)]
+            printed = subprocess.run(words, cwd=folder, check=False, stdout=subprocess.PIPE, stderr=subprocess.STDOUT, text=True, env=environment)
             expect("docs/REFUSED.md, a block of commands", page == printed.stdout.rstrip(), (page, printed))
     expect("docs/REFUSED.md: four blocks of commands", len(sessions) == 4, sessions)
 
@@ -726,13 +737,13 @@ GATES = [
 ]
 
 
-def gates_of_mistakes():
+def gates_of_mistakes() -> Iterator[Any]:
     """The same as mistakes, if there is the program for them."""
     for name, text, said in GATES if Path(os.environ["QRP_CMD"]).with_name("qrp_gates").is_file() else []:
         yield f"a formula of gates {name}", text if text.startswith(b"#") else b"#QCIR-14\n" + text, TRACE, said, ["Traceback"]
 
 
-def try_mistakes(module):
+def try_mistakes(module: ModuleType) -> None:
     """What a user does wrong is said, and what is said is of use."""
     with tempfile.TemporaryDirectory() as folder:
         files = Path(folder) / "formula", Path(folder) / "trace"
@@ -744,7 +755,7 @@ def try_mistakes(module):
             expect(f"mistake: {name}: no more than that", not any(text in out for text in unsaid), (out, unsaid))
 
 
-def try_names(program):
+def try_names(program: Program) -> None:
     """What is advised is written as the command is called: from the sources, by a whole path, installed, and by a link."""
     free = b"p cnf 1 1\n1 0\n"
     with tempfile.TemporaryDirectory() as name:
@@ -757,7 +768,7 @@ def try_names(program):
         (folder / "bin" / "why").symlink_to("../tools/explain")
         environment = dict(os.environ, QRP_CMD=str(program), PATH=f"{folder}/bin:{os.environ['PATH']}")
 
-        def ask(*words):
+        def ask(*words: str) -> Ended:
             return subprocess.run(words, cwd=folder, capture_output=True, text=True, env=environment, check=False)
 
         for words, wanted in (
@@ -788,7 +799,7 @@ def try_names(program):
         )
 
 
-def main():
+def main() -> int:
     program, rows, unreadable = sys.argv[1:]
     for row in Path(unreadable).read_text().splitlines():
         expect(row, False)

@@ -8,7 +8,9 @@ import subprocess
 import sys
 import tempfile
 import unittest.mock
+from collections.abc import Iterable, Sequence
 from pathlib import Path
+from typing import Any, Union
 
 ROOT = Path(__file__).resolve().parents[2]
 sys.path[:0] = [str(ROOT / "tests"), str(ROOT / "tools")]
@@ -17,31 +19,35 @@ from expect import expect, finish  # noqa: E402
 from qrptools.formula import EXISTS, Formula  # noqa: E402
 from qrptools.given_clauses import Given  # noqa: E402
 
+Ended = subprocess.CompletedProcess[Any]
+Program = Union[str, Path]
+
 TRACES = ROOT / "tests" / "traces"
 FALSE = ["kbkf2.trad", "kbkf3.lazy", "qparity3.trad", "equality3.lazy", "php3.trad", "rand0.lazy", "rand0.trad"]
 TRUE = ["adder2.lazy", "copycat3.trad"]
 
 
-def run(script, *words, program, **options):
+def run(script: str, *words: object, program: Program, **options: Any) -> Ended:
     environment = dict(os.environ, QRP_CMD=str(program))
-    words = [sys.executable, ROOT / "tools" / script, *map(str, words)]
-    return subprocess.run(words, capture_output=True, env=environment, check=False, **{"text": True, **options})
+    called = [sys.executable, str(ROOT / "tools" / script), *map(str, words)]
+    options = {"text": True, **options}
+    return subprocess.run(called, capture_output=True, env=environment, check=False, **options)
 
 
-def ask(program, *words):
+def ask(program: Program, *words: Program) -> str:
     return subprocess.run([program, *words], capture_output=True, text=True, check=False).stdout
 
 
-def pair(name):
+def pair(name: str) -> tuple[Path, Path]:
     return TRACES / f"{name.split('.')[0]}.qdimacs", TRACES / f"{name}.qrp"
 
 
-def clauses_of(text):
+def clauses_of(text: str) -> list[str]:
     """The lines of the clauses of a formula in canonical form."""
     return [line for line in text.splitlines() if line[0] not in "pae"]
 
 
-def try_used(program, formula, trace, folder):
+def try_used(program: Program, formula: Path, trace: Path, folder: str) -> None:
     """The smaller formula has some of the clauses and the same prefix, and none of its clauses can be spared."""
     name = trace.name
     wrote = run("used-clauses", formula, trace, program=program)
@@ -68,7 +74,7 @@ def try_used(program, formula, trace, folder):
     expect(f"used-clauses --lines {name}", found == used, (found, used))
 
 
-def try_odd_layout(program, folder):
+def try_odd_layout(program: Program, folder: str) -> None:
     """A formula in another layout, of whose clauses two give the same step and one is not used."""
     formula, trace = Path(folder) / "odd", Path(folder) / "odd.qrp"
     formula.write_bytes(b"c first\np cnf 3 5\ne 1 0\na 2\n0 e 3 0\n1 2 0 -1 2 0\n3 0\nc between\n1 2 0 1\n-1 0\n")
@@ -87,7 +93,7 @@ def try_odd_layout(program, folder):
     expect("used-clauses, reducts of clauses, and a pipe", wrote.returncode == 0 and clauses_of(wrote.stdout)[1:] == ["1 2 0", "-1 2 0"], wrote)
 
 
-def random_pair(dice):
+def random_pair(dice: random.Random) -> tuple[bytes, list[bytes]]:
     """A formula with some clauses, and steps that come from some of them: as they are, in another order, or reduced; and some that do not."""
     variables = dice.sample(range(1, 8), 7)
     sets = [(dice.choice("ae"), variables[start : start + 2]) for start in range(0, 7, 2)]
@@ -100,7 +106,7 @@ def random_pair(dice):
     return "\n".join([*lines, ""]).encode(), [" ".join(map(str, step)).encode() for step in steps]
 
 
-def given_plainly(formula, steps):
+def given_plainly(formula: Formula, steps: Iterable[bytes]) -> Any:
     """The numbers of the clauses that give steps which none before gave, found step by step."""
     left, numbers = {step: frozenset(map(int, step.split())) for step in steps}, []
     for number, _, clause, clean in formula.clauses():
@@ -112,7 +118,7 @@ def given_plainly(formula, steps):
     return numbers
 
 
-def try_given(cases):
+def try_given(cases: int) -> None:
     """Which clauses give steps is found as one by one, whether the clauses are read at once or some at a time."""
     dice, found = random.Random(1), []
     for block in [1 << 18] * cases + [60] * cases:
@@ -124,7 +130,7 @@ def try_given(cases):
     expect("some cases have many such clauses", sum(count > 9 for count in found) > cases // 2, found)
 
 
-def try_odd_traces(program, folder):
+def try_odd_traces(program: Program, folder: str) -> None:
     """The steps of a trace in another layout are counted as those of the same trace."""
     formula, trace = pair("kbkf3.lazy")
     text, odd, last = trace.read_text(), Path(folder) / "odd_trace", len("r unsat\n")
@@ -142,13 +148,13 @@ def try_odd_traces(program, folder):
         expect(f"proof-stats, {name}", wrote.returncode == 0 and json.loads(wrote.stdout)["steps"] == steps, (wrote, steps))
 
 
-def stats_of(program, formula, trace):
+def stats_of(program: Program, formula: Path, trace: Path) -> dict[str, Any]:
     """The figures, computed plainly from what trim prints."""
     lines = [line.split() for line in ask(program, "trim", formula, trace).splitlines()]
     steps = [list(map(int, line)) for line in lines if line[0].isdigit()]
     literals = {step[0]: step[1 : step.index(0)] for step in steps}
     antecedents = {step[0]: step[step.index(0) + 1 : -1] for step in steps}
-    depths = {}
+    depths: dict[Any, Any] = {}
     for number, named in antecedents.items():
         depths[number] = 1 + max(depths[n] for n in named) if named else 0
     counts = [sum(len(named) == n for named in antecedents.values()) for n in range(3)]
@@ -169,7 +175,7 @@ def stats_of(program, formula, trace):
     }
 
 
-def try_stats(program, formula, trace):
+def try_stats(program: Program, formula: Path, trace: Path) -> None:
     wanted = stats_of(program, formula, trace)
     wrote = run("proof-stats", "--json", formula, trace, program=program)
     expect(
@@ -182,11 +188,11 @@ def try_stats(program, formula, trace):
     expect(f"proof-stats {trace.name}", wrote.returncode == 0 and figures == [str(figure) for figure in wanted.values()], wrote)
 
 
-def write_chain(folder, last, factor):
+def write_chain(folder: str, last: int, factor: int) -> tuple[Path, Path]:
     """A formula and its proof: 1, from each variable the next one, and not the last; with the numbers of the steps times a factor."""
     variables = range(1, last)
     clauses = ["1 0", *(f"-{v} {v + 1} 0" for v in variables), f"-{last} 0"]
-    steps = [([1, 0], []), *(([-v, v + 1, 0], []) for v in variables), ([-last, 0], [])]
+    steps: list[Any] = [([1, 0], []), *(([-v, v + 1, 0], []) for v in variables), ([-last, 0], [])]
     steps += [([v + 1, 0], [last + v if v > 1 else 1, v + 1]) for v in variables] + [([0], [2 * last, last + 1])]
     lines = [" ".join(map(str, [n * factor, *literals, *(a * factor for a in named), 0])) for n, (literals, named) in enumerate(steps, 1)]
     formula, trace = Path(folder) / "chain.qdimacs", Path(folder) / f"chain_{factor}.qrp"
@@ -195,12 +201,13 @@ def write_chain(folder, last, factor):
     return formula, trace
 
 
-def try_refusals(program):
+def try_refusals(program: Program) -> None:
     formula, trace = pair("kbkf3.trad")
     other, proof = pair("adder2.lazy")
     for script in "used-clauses", "proof-stats":
         ended = run(script, formula, proof, program=program)
         expect(f"{script}: a refused proof", ended.returncode == 1 and not ended.stdout and "REFUSED set C2 variable 1" in ended.stderr, ended)
+        words: Any
         for words in [], [formula], [formula, trace, "1"], ["--other", formula, trace]:
             ended = run(script, *words, program=program)
             expect(f"{script} {words}", ended.returncode == 2 and not ended.stdout and ended.stderr, ended)
@@ -210,7 +217,7 @@ def try_refusals(program):
     expect("used-clauses: a true formula", ended.returncode == 1 and not ended.stdout and "every clause by definition" in ended.stderr, ended)
 
 
-def main():
+def main() -> int:
     program = sys.argv[1]
     with tempfile.TemporaryDirectory() as folder:
         for name in FALSE:

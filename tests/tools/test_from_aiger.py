@@ -18,7 +18,9 @@ import shutil
 import subprocess
 import sys
 import tempfile
+from collections.abc import Iterator, Sequence
 from pathlib import Path
+from typing import Any, Union
 
 ROOT = Path(__file__).resolve().parents[2]
 sys.path[:0] = [str(ROOT / "tests"), str(ROOT / "tools"), str(ROOT / "tests" / "tools")]
@@ -30,6 +32,9 @@ from qrptools.formula import Formula  # noqa: E402
 from qrptools.names import Names  # noqa: E402
 from gate_formulas import GateFormula  # noqa: E402
 from random_proofs import truth  # noqa: E402
+
+Ended = subprocess.CompletedProcess[Any]
+Program = Union[str, Path]
 
 TOOL = ROOT / "tools" / "from-aiger"
 CIRCUITS = 1000
@@ -66,7 +71,7 @@ MEANT = {
 WHOLE = {"a[1:0]", "a[0:1]", "a[2:1]"}  # patterns that mean nothing if a bit is missing
 
 
-def meant_by(pattern, names):
+def meant_by(pattern: Any, names: Any) -> Any:
     """What a pattern means among these names."""
     if pattern in names:  # a name wins alone
         return {pattern}
@@ -78,7 +83,7 @@ def meant_by(pattern, names):
 class Sample:
     """A random circuit, which can be written and simulated."""
 
-    def __init__(self, seed):
+    def __init__(self, seed: int) -> None:
         pick = random.Random(seed)
         self.inputs, self.latches = pick.randint(1, 3), pick.choice((0, 0, 1, 2))
         self.names = pick.choice(POOL)[: self.inputs] if pick.random() < 0.7 else None
@@ -89,21 +94,23 @@ class Sample:
         limit = first + 2 * len(self.gates)
         any_of = lambda most: [pick.randrange(limit) for _ in range(pick.randint(0, most))]
         self.next = [(pick.randrange(limit), pick.choice((0, 0, 1, None))) for _ in range(self.latches)]
-        self.outputs, self.bads, self.constraints = any_of(2), pick.choice(([], any_of(2))), any_of(2)
+        none: list[int] = []
+        self.outputs, self.bads, self.constraints = any_of(2), pick.choice((none, any_of(2))), any_of(2)
         if not self.outputs and not self.bads:
             self.outputs = [pick.randrange(limit)]
         self.greatest = limit // 2 - 1
 
-    def latch(self, place):
+    def latch(self, place: Any) -> Any:
         return 2 * (self.inputs + place + 1)
 
-    def text(self, is_binary):
+    def text(self, is_binary: bool) -> bytes:
         counts = [self.greatest, self.inputs, self.latches, len(self.outputs), len(self.gates), len(self.bads), len(self.constraints)]
         counts = counts if counts[5:] != [0, 0] else counts[:5]
         lines = [" ".join(map(str, ["aig" if is_binary else "aag", *counts]))]
         lines += [] if is_binary else [str(2 * (place + 1)) for place in range(self.inputs)]
         for place, (following, reset) in enumerate(self.next):
-            words = [following, *({0: [], 1: [1], None: [self.latch(place)]}[reset])]
+            first: dict[Any, list[int]] = {0: [], 1: [1], None: [self.latch(place)]}
+            words = [following, *first[reset]]
             lines.append(" ".join(map(str, words if is_binary else [self.latch(place), *words])))
         lines += map(str, [*self.outputs, *self.bads, *self.constraints])
         lines += [] if is_binary else [" ".join(map(str, gate)) for gate in self.gates]
@@ -115,13 +122,13 @@ class Sample:
         symbols += ["c", "i9 a comment"] if self.names else []
         return data + "".join(line + "\n" for line in symbols).encode()
 
-    def input_names(self):
+    def input_names(self) -> Any:
         return self.names or [f"i{place}" for place in range(self.inputs)]
 
-    def output_name(self, place):
+    def output_name(self, place: Any) -> Any:
         return f"good{place}" if self.names else f"o{place}"
 
-    def run(self, steps, value_of):
+    def run(self, steps: int, value_of: Any) -> Iterator[Any]:
         """The values of the literals in each step, by the value of an input (name, step)."""
         latches = {self.latch(place): bool(reset) if reset is not None else value_of(f"l{place}", 0) for place, (_, reset) in enumerate(self.next)}
         for step in range(steps):
@@ -133,13 +140,13 @@ class Sample:
             yield value
             latches = {self.latch(place): value(following) for place, (following, _) in enumerate(self.next)}
 
-    def wanted(self, asked):
+    def wanted(self, asked: Any) -> Any:
         """What has to hold, each a literal and its value, by the names that are asked for; by none what is asked without them."""
         outputs = [(self.output_name(place), literal, True) for place, literal in enumerate(self.outputs)]
         bads = [(f"b{place}", literal, False) for place, literal in enumerate(self.bads)]
         return [row for row in outputs + bads if row[0] in asked] if asked else bads or outputs
 
-    def holds(self, steps, value_of, asked, demanded):
+    def holds(self, steps: int, value_of: Any, asked: Any, demanded: Any) -> bool:
         """Whether the circuit does what it has to do in these steps, if these constraints have to hold and the others are assumed."""
         for value in self.run(steps, value_of):
             if not all(value(literal) for place, literal in enumerate(self.constraints) if place not in demanded):
@@ -151,7 +158,7 @@ class Sample:
         return True
 
 
-def coded(number):
+def coded(number: int) -> Any:
     """A number as the binary form has it."""
     data = b""
     while number > 127:
@@ -159,11 +166,11 @@ def coded(number):
     return data + bytes([number])
 
 
-def run(*words, **options):
+def run(*words: object, **options: Any) -> Ended:
     return subprocess.run([sys.executable, TOOL, *map(str, words)], capture_output=True, check=False, timeout=60, **options)
 
 
-def read_formula(text):
+def read_formula(text: str) -> tuple[Any, Any]:
     """The pairs of the prefix and the clauses of a formula."""
     lines = [line.split() for line in text.splitlines() if not line.startswith(("c", "p"))]
     pairs = [(line[0], int(word)) for line in lines if line[0] in "ae" for word in line[1:-1]]
@@ -173,7 +180,7 @@ def read_formula(text):
 MAIN = runpy.run_path(str(TOOL), run_name="from_aiger")["main"]
 
 
-def called(words):
+def called(words: Any) -> tuple[Any, Any, Any]:
     """The same by a call in this process: the status, what it prints, and what it says."""
     before, out, error = sys.argv, io.StringIO(), io.StringIO()
     sys.argv = [str(TOOL), *map(str, words)]
@@ -198,9 +205,11 @@ class Asked:
         "--blind": ("e", 1, ""),
     }
 
-    def __init__(self, sample, pick):
+    def __init__(self, sample: Any, pick: random.Random) -> None:
         self.sample, self.steps = sample, pick.randint(1, 2) if sample.latches else 1
         self.free = [f"l{place}" for place, (_, reset) in enumerate(sample.next) if reset is None]
+        self.outer: list[Any]
+        self.rows: list[Any]
         self.words, self.rows, self.outer = ["--steps", str(self.steps)] if sample.latches else [], [], []
         for _ in range(pick.randint(0, 3)):
             self.bind(pick.choice([*self.OPTIONS, "--exists", "--forall"]), pick)
@@ -209,7 +218,7 @@ class Asked:
         self.words += [word for name in self.asked for word in ("--ask", name)]
         self.prefix = self.prefix_of()
 
-    def bind(self, option, pick):
+    def bind(self, option: Any, pick: random.Random) -> None:
         names = self.sample.input_names()
         quantifier, is_outer, one = self.OPTIONS[option]
         found = [pattern for pattern in MEANT if meant_by(pattern, names)] if self.sample.names else [*names, "*", "i[0-9]"]
@@ -220,12 +229,12 @@ class Asked:
         self.words += [option, pattern]
         (self.outer if is_outer else self.rows).append((quantifier, one, own))
 
-    def prefix_of(self):
+    def prefix_of(self) -> Any:
         """The inputs in the order in which they have to be bound: quantifier, name and step, None if it has one value for all steps."""
         names, once = [*self.free, *self.sample.input_names()], set().union(*(own for _, one, own in self.outer if one))
         key = lambda name, step: (name, None if name in once else step)
         every = {key(name, step): None for step in range(self.steps) for name in names if step == 0 or name not in self.free}
-        found = []
+        found: list[Any] = []
         for quantifier, _, own in self.outer:
             found += [(quantifier, *one) for one in every if one[0] in own and one not in [row[1:] for row in found]]
         for step in range(self.steps):
@@ -233,10 +242,10 @@ class Asked:
                 found += [(quantifier, *one) for one in every if one[0] in own and one[1] == step and one not in [row[1:] for row in found]]
         return found
 
-    def value_of(self, values):
+    def value_of(self, values: Any) -> Any:
         return lambda name, step: values[name, None] if (name, None) in values else values[name, step]
 
-    def is_true(self, demanded, values=()):
+    def is_true(self, demanded: Any, values: Any = ()) -> Any:
         """Whether the answer is yes, by trying all values."""
         if len(values) == len(self.prefix):
             given = {row[1:]: value for row, value in zip(self.prefix, values)}
@@ -244,7 +253,7 @@ class Asked:
         answers = (self.is_true(demanded, (*values, value)) for value in (False, True))
         return any(answers) if self.prefix[len(values)][0] == "e" else all(answers)
 
-    def players(self, constraint):
+    def players(self, constraint: Any) -> set[Any]:
         """The quantifiers of the inputs that a constraint really depends on, by trying all values."""
         tables = {}
         for values in itertools.product((False, True), repeat=len(self.prefix)):
@@ -254,7 +263,7 @@ class Asked:
         return {row[0] for place, row in enumerate(self.prefix) for values in tables if tables[values] != tables[changed(values, place)]}
 
 
-def shown(name, step, steps):
+def shown(name: str, step: Any, steps: int) -> Any:
     name = "_".join(name.split())
     if steps == 1 or step is None:
         return name
@@ -262,7 +271,7 @@ def shown(name, step, steps):
     return f"{base}@{step}{bracket}{rest}"
 
 
-def formula_of(words, path, seed, folder):
+def formula_of(words: Any, path: Path, seed: int, folder: Path) -> tuple[Any, Any, Any, Any]:
     """What the tool says of a circuit: the status, the formula, the names, and what it says. Of the first it is asked for both forms."""
     words = [*words, "--names", folder / "names"]
     if seed >= ALONE:
@@ -274,13 +283,14 @@ def formula_of(words, path, seed, folder):
     gates = re.search(r"exists (\d+) gates?:", said) if status == 0 else None
     rows, _, last = names.partition("# gates: ")
     count = int(gates[1]) if gates else 0
-    variables = int(re.search(r"; (\d+) variables?\n", said)[1]) if status == 0 else 0
+    told = re.search(r"; (\d+) variables?\n", said)
+    variables = int(told[1]) if told and status == 0 else 0
     is_told = last == (f"{variables - count + 1} to {variables}\n" if count else "")
     expect(f"circuit {seed}: the names say which variables are gates", is_told, (names, said))
     return status, text, rows, said
 
 
-def roles_of(question, seed, path, folder, pick):
+def roles_of(question: Any, seed: int, path: Path, folder: Path, pick: random.Random) -> tuple[Any, Any]:
     """What is said of a circuit, with the constraints that have to hold. One that is neither assumed nor demanded by default is so by a word."""
     words, count = question.words, len(question.sample.constraints)
     if pick.random() < 0.2 and count:
@@ -288,7 +298,9 @@ def roles_of(question, seed, path, folder, pick):
         return formula_of([*words, option, "c*"], path, seed, folder), set(range(count)) if option == "--demand" else set()
     found = formula_of(words, path, seed, folder)
     if found[0] == 1 and "which the existential player sets, and on" in found[3]:
-        constraint = int(re.search(r"the constraint c(\d) depends on", found[3])[1])
+        told = re.search(r"the constraint c(\d) depends on", found[3])
+        assert told
+        constraint = int(told[1])
         expect(f"circuit {seed}: a constraint that is refused has inputs of both players", {row[0] for row in question.prefix} == {"a", "e"}, found)
         option = pick.choice(("--assume", "--demand"))
         return formula_of([*words, option, "c*"], path, seed, folder), set(range(count)) if option == "--demand" else set()
@@ -300,7 +312,7 @@ def roles_of(question, seed, path, folder, pick):
     return found, demanded
 
 
-def propagated(clauses, literals):
+def propagated(clauses: Any, literals: Any) -> Any:
     """What these clauses leave if some literals are true: the literals that are then true."""
     true, is_new = set(literals), True
     while is_new:
@@ -313,7 +325,7 @@ def propagated(clauses, literals):
     return true
 
 
-def names_are_right(question, named, pairs, clauses, gates, pick):
+def names_are_right(question: Any, named: Any, pairs: Any, clauses: Any, gates: Any, pick: random.Random) -> tuple[Any, Any, Any, Any]:
     """Whether each gate with a name has the value that the simulation gives to what the name says, for random values of the inputs."""
     given = {row[1:]: pick.random() < 0.5 for row in question.prefix}
     calls = {shown(name, step, question.steps): value for (name, step), value in given.items()}
@@ -332,8 +344,9 @@ def names_are_right(question, named, pairs, clauses, gates, pick):
     return not wrong and len(true) == len(pairs), (wrong, named, given), given, true
 
 
-def waves(text):
+def waves(text: str) -> Any:
     """The values of the signals of a waveform in each step, by the names of their bits."""
+    steps: list[Any]
     widths, codes, now, steps = {}, {}, {}, []
     for line in text.splitlines():
         words = line.split()
@@ -346,7 +359,9 @@ def waves(text):
         elif words[0][0] in "01":
             now[codes[line[1:]][0]] = line[0] == "1"
         elif words[0][0] == "b" and words[1] in codes:
-            name, (high, low) = codes[words[1]]
+            name, ends = codes[words[1]]
+            assert ends
+            high, low = ends
             assert len(words[0]) == 1 + widths[words[1]] == 2 + high - low, line
             now.update((f"{name}[{high - place}]", value == "1") for place, value in enumerate(words[0][1:]) if value != "x")
         if steps:
@@ -354,7 +369,7 @@ def waves(text):
     return steps[:-1]
 
 
-def run_is_right(run, question, demanded, used, given):
+def run_is_right(run: Any, question: Any, demanded: Any, used: Any, given: Any) -> tuple[Any, Any]:
     """Whether the files of a run have the values of the simulation, and its sentence says what is so."""
     sample = question.sample
     value_of = question.value_of({key: value and key[0] in used for key, value in given.items()})
@@ -388,7 +403,7 @@ def run_is_right(run, question, demanded, used, given):
     return holds, (said, list(run.stimulus()), wanted, found, shown)
 
 
-def try_circuit(seed, program, folder, seen):
+def try_circuit(seed: int, program: Program, folder: Path, seen: Any) -> None:
     """The formula of a random circuit says what the simulation says, in both forms of the file, and its names are right."""
     sample, pick = Sample(seed), random.Random(-seed)
     question, path = Asked(sample, pick), folder / f"circuit{seed}"
@@ -397,7 +412,7 @@ def try_circuit(seed, program, folder, seen):
     if not expect(f"circuit {seed}: a formula {question.words}", status == 0, (said, sample.text(False))):
         return
     if seed < ALONE:
-        words = [word for name in ("--assume", "--demand") for word in (name, "c*")] if not sample.constraints else []
+        words: Any = [word for name in ("--assume", "--demand") for word in (name, "c*")] if not sample.constraints else []
         path.write_bytes(sample.text(True))
         other = ("--demand", "c*") if demanded and len(demanded) == len(sample.constraints) else ("--assume", "c*")
         words = other if sample.constraints and len(demanded) in (0, len(sample.constraints)) else ()
@@ -433,7 +448,7 @@ def try_circuit(seed, program, folder, seen):
     path.unlink()
 
 
-def gates_are_right(question, demanded, answer, path, folder, given):
+def gates_are_right(question: Any, demanded: Any, answer: Any, path: Path, folder: Path, given: Any) -> tuple[Any, Any]:
     """Whether the formula of gates of a circuit says what the simulation says, and its names have the values of the simulation."""
     roles = [word for place in range(len(question.sample.constraints)) for word in ("--demand" if place in demanded else "--assume", f"c{place}")]
     status, text, said = called([*question.words, *roles, "--qcir", "--names", folder / "gates", path])
@@ -461,13 +476,13 @@ def gates_are_right(question, demanded, answer, path, folder, given):
     return is_right and formula.truth() == answer, (wrong, text, question.words, given, answer)
 
 
-def blocks_in(rows):
+def blocks_in(rows: Any) -> list[Any]:
     """The names by block: each a quantifier and a set."""
     return [(quantifier, {name for _, name in own}) for quantifier, own in itertools.groupby(rows, key=lambda row: row[0])]
 
 
-def try_circuits(program, folder):
-    seen = {"answers": set(), "dropped": False, "names": set()}
+def try_circuits(program: Program, folder: Path) -> None:
+    seen: dict[str, Any] = {"answers": set(), "dropped": False, "names": set()}
     for seed in range(CIRCUITS):
         try_circuit(seed, program, folder, seen)
     expect("there are all kinds of questions, both answers, and inputs that are not used", len(seen["answers"]) == 16 and seen["dropped"], seen)
@@ -513,15 +528,17 @@ WRONG = [
 ]
 
 
-def try_wrong(folder):
+def try_wrong(folder: Path) -> None:
     """What is no circuit, or not one that is taken, is refused with its place."""
     path = folder / "wrong"
+    said: Any
     for name, data, *said in WRONG:
-        path.write_bytes(data if isinstance(data, bytes) else data.encode())
+        path.write_bytes(data if isinstance(data, bytes) else str(data).encode())
         ended = run(path)
         holds = ended.returncode == 1 and not ended.stdout and said[-1] in ended.stderr.decode() and b"Traceback" not in ended.stderr
         expect(f"wrong: {name}", holds, ended)
     path.write_text(HALF)
+    words: Any
     for words, status, said in (
         (["--exists", "z*"], 1, "no input is called 'z*'; the inputs are x, y"),
         (["--once", "both"], 1, "no input is called 'both'"),
@@ -536,7 +553,7 @@ def try_wrong(folder):
     expect("nothing is left beside the names", not list(folder.glob("*.new")), list(folder.iterdir()))
 
 
-def try_text(folder):
+def try_text(folder: Path) -> None:
     """The whole formula of a gate, what is said of it, and what constants leave."""
     path = folder / "half"
     path.write_text(HALF)
@@ -585,7 +602,7 @@ MIXED = "aag 3 2 0 1 1 0 1\n2\n4\n2\n7\n6 2 4\ni0 h\ni1 a\no0 ok\nc0 allowed\n"
 TWO = "aag 3 3 0 2 0\n2\n4\n6\n2\n5\ni0 h\ni1 a\ni2 d\no0 ok\no1 debug[0]\n"
 
 
-def asked(text, *words, folder):
+def asked(text: str, *words: object, folder: Path) -> tuple[Any, Any, Any, Any]:
     """The status, the formula without comments, the names, and what is said."""
     path = folder / "asked"
     path.write_text(text)
@@ -593,31 +610,32 @@ def asked(text, *words, folder):
     return status, "".join(line for line in formula.splitlines(True) if not line.startswith("c")), names, said.replace(f"{TOOL}: ", "")
 
 
-def answer_of(text, *words, folder):
+def answer_of(text: str, *words: object, folder: Path) -> Any:
     """The answer to a question, by trying all values."""
     return truth(*read_formula(asked(text, *words, folder=folder)[1]))
 
 
-def try_names(folder):
+def try_names(folder: Path) -> None:
     """Names say what is so: a gate is called by the bad state that it is, and clauses say that it is false."""
     status, _, names, said = asked(NOT_BOTH, "--exists", "*", folder=folder)
     expect("a bad state that is the negation of a gate", names == "1 x\n2 y\n3 not_crash\n" and "asked: crash is false\n" in said, (names, said))
     names = asked(NOT_BOTH.replace("\n7\n", "\n6\n"), folder=folder)[2]
     expect("a bad state that is a gate", names == "1 x\n2 y\n3 crash\n", names)
-    ended = called(["--exists", "*", folder / "asked"])
+    ended: Any = called(["--exists", "*", folder / "asked"])
     expect("the comment on a bad state", "c clause 4: crash is false\n" in ended[1], ended)
     said = asked("aag 1 1 0 0 0 1\n2\n1\n", folder=folder)[3]
     expect("a bad state that is true", "b0 cannot be false, whatever the inputs are" in said, said)
     for name, wanted in (("  ", "i0"), ("my hole", "my_hole"), ("caf\u00e9", "caf\u00e9")):
         path = folder / "named"
         path.write_bytes(f"aag 1 1 0 1 0\n2\n2\ni0 {name}\n".encode())
+        variables: Any
         for variables in {}, {"LC_ALL": "POSIX", "PYTHONUTF8": "0", "PYTHONCOERCECLOCALE": "0"}:
             ended = run("--exists", wanted, "--names", folder / "names", path, env={**os.environ, **variables})
             names, formula = (folder / "names").read_bytes().decode(), ended.stdout.decode()
             expect(f"the symbol {name!r} {variables}", (ended.returncode, names) == (0, f"1 {wanted}\n") and "e 1 0" in formula, (ended, names))
 
 
-def try_patterns(folder):
+def try_patterns(folder: Path) -> None:
     """A pattern with brackets means bits, and a name wins alone."""
     for pattern, sets in (
         ("h[0]", "e 1 0\na 2 3 4 0\n"),
@@ -640,7 +658,7 @@ def try_patterns(folder):
     expect("a bit that is not there", status == 1 and "no input is called 'h[7]'" in said, said)
 
 
-def try_order(folder):
+def try_order(folder: Path) -> None:
     """What is bound outermost: a plan of all steps, values of all steps for either player; and what is said if a plan may see a first value."""
     words = ["--steps", "3"]
     status, _, _, said = asked(PARITY, *words, "--exists", "x", folder=folder)
@@ -654,6 +672,7 @@ def try_order(folder):
     expect("a first value that is existential is told", "warning: the first value of p is existential" in said, said)
     said = asked(INITIAL, "--steps", "2", "--exists", "x", folder=folder)[3]
     expect("an input of yosys is a first value", "warning: x@1 comes after the first value of init:p" in said, said)
+    wanted: Any
     for option, wanted in ("--exists", True), ("--blind", False):
         expect(f"an input of yosys: {option}", answer_of(INITIAL, "--steps", "2", option, "x", folder=folder) == wanted)
     for options, wanted in (
@@ -666,7 +685,7 @@ def try_order(folder):
         expect(f"outermost: {options}", said.startswith(wanted), said)
 
 
-def try_constraints(folder):
+def try_constraints(folder: Path) -> None:
     """A constraint that the existential player alone can break is this player's duty, and one of both players needs a word."""
     status, _, _, said = asked(ASSUMED, "--exists", "h", folder=folder)
     expect("a duty is told", "warning: the constraint allowed depends on h alone, which the existential player sets, so it has to hold" in said, said)
@@ -676,7 +695,9 @@ def try_constraints(folder):
     said = asked(ASSUMED, folder=folder)[3]
     expect("what is assumed is told", "asked: ok is true; as long as allowed holds\n" in said, said)
     status, formula, _, said = asked(MIXED, "--exists", "h", folder=folder)
-    wanted = "the constraint allowed depends on h, which the existential player sets, and on a, which the other one sets: say by --demand allowed"
+    wanted: Any = (
+        "the constraint allowed depends on h, which the existential player sets, and on a, which the other one sets: say by --demand allowed"
+    )
     expect("a constraint of both players is refused", status == 1 and not formula and wanted in said, said)
     for option, wanted in ("--assume", True), ("--demand", False):
         expect(f"a constraint of both players by {option}", answer_of(MIXED, "--exists", "h", option, "allowed", folder=folder) == wanted)
@@ -684,7 +705,7 @@ def try_constraints(folder):
     expect("both roles", status == 1 and "the constraint allowed is both assumed and demanded" in said, said)
 
 
-def try_asked(folder):
+def try_asked(folder: Path) -> None:
     """What is asked is chosen and named, and so is what is not."""
     said = asked(TWO, folder=folder)[3]
     expect("all outputs", "asked: ok debug are true\n" in said and "not asked" not in said, said)
@@ -701,19 +722,19 @@ def try_asked(folder):
     expect("justice and fairness beside an output", "not asked: 1 justice property, 1 fairness constraint\n" in said and "1 clause" in said, said)
 
 
-def try_summary(folder):
+def try_summary(folder: Path) -> None:
     """The prefix shows bits of a bus that is split, and all of it if that is asked for."""
     said = asked(BUS.replace("12 11 6", "12 11 4"), "--exists", "h[1]", folder=folder)[3]
     expect("a bus that is split", said.startswith("exists h[1], for all h[0] a, "), said)
     names = "".join(f"i{place} n{place}\n" for place in range(20))
     text = f"aag 20 20 0 20 0\n{''.join(f'{2 * place + 2}{chr(10)}' for place in range(20)) * 2}{names}"
-    short, whole = (asked(text, *words, folder=folder)[3] for words in ([], ["--summary"]))
+    short, whole = (asked(text, *words, folder=folder)[3] for words in ((), ("--summary",)))
     expect("many names", "n11 and 8 more:" in short and "n19:" in whole, (short, whole))
-    short, whole = (asked(LATCH, "--steps", "20", *words, folder=folder)[3] for words in ([], ["--summary"]))
+    short, whole = (asked(LATCH, "--steps", "20", *words, folder=folder)[3] for words in ((), ("--summary",)))
     expect("many blocks", "and 14 more blocks" in short and "i0@19:" in whole, (short, whole))
 
 
-def try_files(folder):
+def try_files(folder: Path) -> None:
     """A circuit may be compressed, and come by the standard input."""
     path = folder / "half.gz"
     path.write_bytes(gzip.compress(HALF.encode()))
@@ -725,7 +746,7 @@ def try_files(folder):
     expect("a compressed circuit that is cut", ended.returncode == 2 and not ended.stdout and b"cannot be unpacked" in ended.stderr, ended)
 
 
-def try_steps(folder):
+def try_steps(folder: Path) -> None:
     """What is said of many steps is short."""
     path = folder / "latch"
     path.write_text(LATCH)
@@ -744,11 +765,11 @@ GRANTS = ["ga@0 !gb@0", "ga@1 !gb@1", "!ga@2 !gb@2"]  # b asks for the bus in st
 WITNESS = "1\nb3\n00\n01110\n01110\n.\n"
 
 
-def tool(name, *words):
+def tool(name: str, *words: object) -> Ended:
     return subprocess.run([sys.executable, ROOT / "tools" / name, *map(str, words)], capture_output=True, text=True, check=False, timeout=60)
 
 
-def constant_strategy(folder, circuit, *more):
+def constant_strategy(folder: Path, circuit: Any, *more: Any) -> tuple[Any, Any, Any]:
     """The formula of the arbiter, its names, and as a circuit of the universal player: everybody asks, in each step."""
     formula, names, strategy = folder / "runs.q", folder / "runs.names", folder / "runs.aag"
     formula.write_bytes(run(*STEPS, *more, "--names", names, circuit).stdout)
@@ -760,7 +781,7 @@ def constant_strategy(folder, circuit, *more):
     return formula, names, strategy
 
 
-def try_runs(folder):
+def try_runs(folder: Path) -> None:
     """A play to the end is run in the circuit: the line says what happens in which step, and the files have it for other programs."""
     circuit = ARBITER / "arbiter.aag"
     formula, names, strategy = constant_strategy(folder, circuit)
@@ -772,12 +793,13 @@ def try_runs(folder):
     expect("a play that is run", ended.returncode == 0 and ended.stdout.endswith(said), ended)
     expect("a play that is run: the witness", stim.read_text() == WITNESS, stim.read_text())
     found = [{name: row[name] for name in ("ga", "gb", "waits_b", "b3")} for row in waves(wave.read_text())]
-    wanted = [(True, False, False, False), (True, False, True, True), (False, False, True, False)]
+    wanted: Any = [(True, False, False, False), (True, False, True, True), (False, False, True, False)]
     expect("a play that is run: the wave", [tuple(row.values()) for row in found][:2] == wanted[:2] and len(found) == 3, found)
     as_json = tool("play", "--json", *words, *replies, "--strategy", strategy, formula)
     expect("a play that is run, as JSON", '"run": "in a simulation, in step 1 of 0 to 2: the bad state b3 is true"' in as_json.stdout, as_json)
     before = stim.read_text(), wave.read_text()
-    stim.unlink(), wave.unlink()
+    stim.unlink()
+    wave.unlink()
     shown_run = tool("explain-strategy", *words, *replies, "--circuit", strategy, formula)
     expect("the run of a strategy", shown_run.returncode == 0 and shown_run.stdout == said, shown_run)
     expect("the run of a strategy: its files", (stim.read_text(), wave.read_text()) == before)
@@ -787,6 +809,8 @@ def try_runs(folder):
         "a run without a bad state", ended.returncode == 1 and ended.stdout.endswith("in a simulation of 3 steps no bad state is reached\n"), ended
     )
     expect("a run without a bad state: the file", stim.read_text() == "2\nb0\n00\n01110\n01101\n01110\n.\n", stim.read_text())
+    name: Any
+    options: Any
     for name, options, status, wanted in (
         ("a play that stops", [*words, "--strategy", strategy, formula], 2, "so there is no run of the model: give a --reply for each"),
         ("no names", [*words[2:], "--strategy", strategy, formula], 2, "--model goes with --names"),
@@ -815,7 +839,7 @@ def try_runs(folder):
     expect("a run: a circuit with other names", ended.returncode == 1 and "the formula or its names are of another circuit" in ended.stderr, ended)
 
 
-def try_lost_run(program, folder):
+def try_lost_run(program: Program, folder: Path) -> None:
     """A strategy that does not win is shown to lose in the circuit."""
     if not shutil.which("depqbf"):
         skip("a run that is lost", "there is no depqbf")
@@ -823,7 +847,7 @@ def try_lost_run(program, folder):
     circuit, wave = ARBITER / "arbiter.aag", folder / "lost.vcd"
     formula, names, strategy = constant_strategy(folder, circuit)
     words = ["--verify", "--names", names, "--model", circuit, "--vcd", wave, "--circuit", strategy, formula]
-    os.environ["QRP_CMD"] = program
+    os.environ["QRP_CMD"] = str(program)
     ended = tool("explain-strategy", *words)
     said = "in a simulation of 3 steps no bad state is reached\n"
     expect("a run that is lost", ended.returncode == 1 and ended.stdout == said and "the circuit does not win: with " in ended.stderr, ended)
@@ -831,13 +855,13 @@ def try_lost_run(program, folder):
     expect("a run that is lost: its wave", len(steps) == 3 and all(row["ra"] and row["rb"] and row["ga"] != row["gb"] for row in steps), steps)
 
 
-def try_replay(folder):
+def try_replay(folder: Path) -> None:
     """yosys makes a map with the lines of assertions, and simulates the witness in the Verilog itself; GTKWave's reader takes the wave."""
     if not shutil.which("yosys"):
         skip("a run in the Verilog", "there is no yosys")
         return
     read = f"read_verilog -formal {ARBITER}/arbiter.v"
-    made = f"{read}; synth -flatten -top arbiter; async2sync; dffunmap; aigmap; write_aiger -symbols -zinit"
+    made: Any = f"{read}; synth -flatten -top arbiter; async2sync; dffunmap; aigmap; write_aiger -symbols -zinit"
     for option in "-vmap", "-map":
         subprocess.run(["yosys", "-q", "-p", f"{made} {option} {folder}/arbiter{option} {folder}/arbiter.aig"], capture_output=True, check=False)
     lines = ["--map", folder / "arbiter-vmap"]
@@ -872,7 +896,7 @@ def try_replay(folder):
     )
 
 
-def try_verilog(folder):
+def try_verilog(folder: Path) -> None:
     """The circuit of docs/TUTORIAL.md, by yosys: the hole is filled, and the answer is right by a simulation."""
     if not shutil.which("yosys"):
         skip("a circuit in Verilog", "there is no yosys")
@@ -894,7 +918,7 @@ def try_verilog(folder):
     expect("yosys, registers and assertions", made.returncode == 0 and sets == [wanted, wanted], (made, sets))
 
 
-def main():
+def main() -> int:
     program = os.path.abspath(sys.argv[1])
     with tempfile.TemporaryDirectory() as name:
         folder = Path(name)

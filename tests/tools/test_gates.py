@@ -16,6 +16,7 @@ import tempfile
 from concurrent.futures import ThreadPoolExecutor
 from itertools import product
 from pathlib import Path
+from typing import Any, Union
 
 ROOT = Path(__file__).resolve().parents[2]
 TOOLS = ROOT / "tools"
@@ -24,6 +25,8 @@ sys.dont_write_bytecode = True
 from expect import expect, finish, skip  # noqa: E402
 from gate_formulas import GateFormula, random_formula  # noqa: E402
 from qrptools.questions.reader import QuestionFault, read_question  # noqa: E402
+
+Program = Union[str, Path]
 
 FORMULAS = 2000
 PLAYED = 200  # of them by a circuit, against all moves
@@ -44,21 +47,21 @@ WRONG = [
 class Use:
     """The programs, and a folder."""
 
-    def __init__(self, program, folder):
+    def __init__(self, program: Program, folder: Path) -> None:
         self.checker, self.gates, self.folder = program, str(Path(program).with_name("qrp_gates")), folder
         self.environment = {**os.environ, "QRP_CMD": program}
 
-    def file(self, name, text):
+    def file(self, name: str, text: Union[str, bytes]) -> Path:
         path = self.folder / name
         path.write_bytes(text if isinstance(text, bytes) else text.encode())
         return path
 
-    def ask(self, *words):
+    def ask(self, *words: object) -> tuple[Any, Any, Any]:
         """The status, the output and the errors of qrp_gates."""
         ended = subprocess.run([self.gates, *map(str, words)], capture_output=True, text=True, check=False)
         return ended.returncode, ended.stdout, ended.stderr
 
-    def tool(self, name, *words):
+    def tool(self, name: str, *words: object) -> tuple[Any, Any, Any]:
         ended = subprocess.run(
             [sys.executable, TOOLS / name, *map(str, words)],
             capture_output=True,
@@ -70,7 +73,7 @@ class Use:
         return ended.returncode, ended.stdout, ended.stderr
 
 
-def solved(use, seed):
+def solved(use: Use, seed: int) -> tuple[Any, Any, Any, Any, Any, Any]:
     """What is found of a random formula: its truth by all values, what the tools read, the solver's status, and the line of its proof."""
     text = random_formula(random.Random(seed))
     question, clauses, trace = (use.folder / f"{seed}.{kind}" for kind in ("qcir", "qdimacs", "qrp"))
@@ -88,7 +91,7 @@ def solved(use, seed):
     return text, formula.truth(), is_read, made, status, line
 
 
-def try_random(use):
+def try_random(use: Use) -> None:
     """Random formulas: the solver's answer by the clauses, and the verdict of its proof, are what all values say."""
     with ThreadPoolExecutor(4) as pool:
         found = list(pool.map(lambda seed: solved(use, seed), range(FORMULAS)))
@@ -104,7 +107,7 @@ def try_random(use):
     expect("there are many formulas of both truths", min(truths.count(True), truths.count(False)) > FORMULAS // 4, truths.count(True))
 
 
-def outputs_of(text, values):
+def outputs_of(text: str, values: Any) -> dict[str, Any]:
     """The values of the outputs of a circuit in ASCII AIGER by their names, if the inputs with these names have these values."""
     lines = text.split("\n")
     _, inputs, _, outputs, gates = map(int, lines[0].split()[1:])
@@ -118,13 +121,13 @@ def outputs_of(text, values):
     return {symbols[f"o{place}"]: value(int(line)) for place, line in enumerate(lines[1 + inputs : 1 + inputs + outputs])}
 
 
-def try_played(use):
+def try_played(use: Use) -> None:
     """The winner's circuit has an output for each of the winner's variables and for no gate, and wins against all moves."""
     if not shutil.which("depqbf"):
         skip("circuits of formulas of gates", "there is no depqbf")
         return
 
-    def shown(seed):
+    def shown(seed: int) -> Any:
         return use.tool("explain-strategy", "--format", "aag", *(use.folder / f"{seed}.{kind}" for kind in ("qcir", "qrp")))
 
     with ThreadPoolExecutor(4) as pool:
@@ -147,15 +150,15 @@ def try_played(use):
             expect(f"formula {seed}: the circuit without gates is verified", ended[0] == 0, (ended, text))
 
 
-def sees_only_before(formula, moves, answers, name):
+def sees_only_before(formula: GateFormula, moves: Any, answers: Any, name: str) -> bool:
     """Whether an output has one value for all moves that have the same values before it."""
     order = [variable for _, variable in formula.prefix]
     before = [variable for variable in order[: order.index(name)] if variable in moves[0]]
-    seen = {}
+    seen: dict[Any, Any] = {}
     return all(seen.setdefault(tuple(move[one] for one in before), answer[name]) == answer[name] for move, answer in zip(moves, answers))
 
 
-def said_of(data):
+def said_of(data: bytes) -> str:
     """What the reader of the tools says of a text, as the program would."""
     try:
         read_question(data)
@@ -164,7 +167,7 @@ def said_of(data):
         return f"REFUSED formula {fault.name} line {fault.line}\n"
 
 
-def try_damaged(use):
+def try_damaged(use: Use) -> None:
     """Texts that are cut at each place, and texts with a byte more, less or another, are refused as the program refuses them."""
     texts = [BITS, *(random_formula(random.Random(-seed)) for seed in range(1, 5))]
     damaged = [text.encode()[:end] for text in texts for end in range(len(text) + 1)]
@@ -183,7 +186,7 @@ def try_damaged(use):
     expect("they are refused in many ways", kinds == {"Q2", "Q3", "Q4", "Q5", "Q6", "Q7", "Q8", "Q9"}, kinds)
 
 
-def try_tools(use):
+def try_tools(use: Use) -> None:
     """The tools take a formula of gates, and speak of its names."""
     question = use.file("bits.qcir", BITS)
     clauses = use.file("bits.qdimacs", use.ask("clauses", question)[1])
@@ -216,6 +219,11 @@ def try_tools(use):
         ended = use.tool("solve", "--strategy", own, question)
         shown = use.tool("explain-strategy", "--circuit", own, question)
         expect(f"solve --strategy: {ending}", ended[0] == 10 and shown[1] == use.tool("explain-strategy", question, trace)[1], (ended, shown))
+    made = use.ask("strategy", question, trace)[1]
+    expect("solve --strategy: the circuit of qrp_gates", (use.folder / "solved.aag").read_text() == made and "\ni0 a\n" in made, made)
+    names = use.file("swapped", "1 a\n3 h_1\n")
+    ended = use.tool("explain-strategy", "--names", names, question, trace)
+    expect("explain-strategy: the names of other variables", ended[0] == 0 and "    a = false\n" in ended[1], ended)
     ended = use.tool("explain-strategy", "--circuit", circuit, question)
     expect("explain-strategy: a circuit without gates", ended[1] == use.tool("explain-strategy", question, trace)[1], ended)
     ended = use.tool("explain-strategy", "--verify", question, trace)
@@ -243,7 +251,7 @@ def try_tools(use):
     expect("solve: a false one", ended[0] == 20 and ended[1].startswith("s cnf 0 8 ") and "by the proof: -h_1 " in ended[1], ended)
 
 
-def try_checks(use, question, clauses, trace, damaged, line):
+def try_checks(use: Use, question: Any, clauses: Any, trace: Any, damaged: Path, line: str) -> None:
     """check and check-many, also of compressed files, and of a program that is not there."""
     expect("check", use.tool("check", question, trace)[:2] == (0, "VERIFIED true\n"))
     ended = use.tool("check", question, damaged)
@@ -265,7 +273,7 @@ def try_checks(use, question, clauses, trace, damaged, line):
     expect("check-many", found == [*["VERIFIED true"] * 3, line.strip()] and ended[0] == 1, ended)
 
 
-def try_examples(use):
+def try_examples(use: Use) -> None:
     """The stored formulas of gates are those that make them, and their stored proofs show what all values say."""
     folder, examples = ROOT / "examples" / "gates", {"blind-box": False, "eight-matches": False, "arbiter": True}
     expect("examples: all are known", {path.stem for path in folder.glob("*.qcir")} == set(examples))
@@ -280,7 +288,7 @@ def try_examples(use):
     expect("example eight-matches: as its script makes it", made == (folder / "eight-matches.qcir").read_text())
 
 
-def try_verilog(use):
+def try_verilog(use: Use) -> None:
     """From Verilog to a controller, which yosys confirms in the Verilog itself; one with an output turned is refused."""
     if not shutil.which("yosys") or not shutil.which("depqbf"):
         skip("a controller in Verilog", "there is no yosys, or no depqbf")
@@ -300,7 +308,7 @@ def try_verilog(use):
         expect(f"the controller in Verilog: {name}", is_shown, (ended, text))
 
 
-def main():
+def main() -> int:
     with tempfile.TemporaryDirectory() as name:
         use = Use(os.path.abspath(sys.argv[1]), Path(name))
         if not Path(use.gates).is_file():
@@ -308,7 +316,7 @@ def main():
             return finish(0)
         for case in try_random, try_played, try_damaged, try_tools, try_examples, try_verilog:
             case(use)
-    return finish(7906)
+    return finish(7908)
 
 
 if __name__ == "__main__":

@@ -16,8 +16,11 @@ import sys
 import tempfile
 import time
 from argparse import Namespace
+from collections.abc import Iterator, Sequence, Set
 from concurrent.futures import ProcessPoolExecutor
 from pathlib import Path
+from types import ModuleType
+from typing import Any, Optional, Union
 
 ROOT = Path(__file__).resolve().parents[2]
 sys.path[:0] = [str(ROOT / "tests"), str(ROOT / "tools"), str(ROOT / "tests" / "tools")]
@@ -34,6 +37,10 @@ from qrptools.program import trimmed  # noqa: E402
 from random_proofs import random_case, truth  # noqa: E402
 from test_steps import damages  # noqa: E402
 
+Ended = subprocess.CompletedProcess[Any]
+Clauses = list[list[int]]
+Blocks = list[tuple[str, list[int]]]
+
 PLAY = ROOT / "tools" / "play"
 EXAMPLES = sorted(folder for folder in (ROOT / "examples").iterdir() if (folder / "make-formula").exists())
 SEEDS = 700  # of random formulas
@@ -41,10 +48,12 @@ SMALL = 12  # variables that a search of the game takes
 EVERY = 7  # of the damages of a proof so many are tried, and the first ones
 
 
-def module_of(tool):
+def module_of(tool: Path) -> ModuleType:
     """A tool as a module."""
     loader = importlib.machinery.SourceFileLoader(f"tool_{tool.name}", str(tool))
-    module = importlib.util.module_from_spec(importlib.util.spec_from_loader(loader.name, loader))
+    spec = importlib.util.spec_from_loader(loader.name, loader)
+    assert spec
+    module = importlib.util.module_from_spec(spec)
     loader.exec_module(module)
     return module
 
@@ -55,9 +64,12 @@ TOOL = module_of(PLAY)
 # The formula, read and restricted here
 
 
-def read_formula(text):
+def read_formula(text: str) -> tuple[Blocks, Clauses]:
     """The blocks, each a quantifier and its variables, and the clauses of a formula that is known to be right."""
     words = [word for line in text.splitlines() if not line.startswith("c") for word in line.split()][4:]
+    clauses: list[Any]
+    row: list[Any]
+    sets: list[Any]
     sets, clauses, row = [], [], []
     for word in words:
         if word == "0":
@@ -65,7 +77,7 @@ def read_formula(text):
             row = []
         else:
             row.append(word)
-    blocks = []
+    blocks: list[Any] = []
     for quantifier, *variables in sets:
         if blocks and variables and blocks[-1][0] == quantifier:
             blocks[-1][1].extend(map(int, variables))
@@ -74,13 +86,13 @@ def read_formula(text):
     return blocks, [list(map(int, clause)) for clause in clauses]
 
 
-def restricted(blocks, clauses, values):
+def restricted(blocks: Blocks, clauses: Clauses, values: Set[int]) -> tuple[Blocks, Clauses]:
     """The formula after values of its outermost block."""
     left = [[literal for literal in clause if -literal not in values] for clause in clauses if values.isdisjoint(clause)]
     return blocks[1:], left
 
 
-def pairs_of(blocks):
+def pairs_of(blocks: Blocks) -> list[tuple[str, int]]:
     return [(quantifier, variable) for quantifier, variables in blocks for variable in variables]
 
 
@@ -91,7 +103,7 @@ class Wrong(Exception):
     """A game is not as it has to be."""
 
 
-def require(holds, what):
+def require(holds: object, what: str) -> None:
     if not holds:
         raise Wrong(what)
 
@@ -99,29 +111,29 @@ def require(holds, what):
 class NoGates:
     """Stands in for Gates where no variable is one."""
 
-    definitions = {}
+    definitions: dict[Any, Any] = {}
 
-    def __init__(self, *_):
+    def __init__(self, *_: object) -> None:
         pass
 
-    def set_to(self, *_):
+    def set_to(self, *_: object) -> None:
         pass
 
 
-def played(formula, trace, any_pivot, seed, folder):
+def played(formula: Any, trace: Any, any_pivot: bool, seed: int, folder: Path) -> dict[str, Any]:
     """What the tool finds of a game with random replies, with the files of all states in a folder."""
     restriction.SOME, reading.BLOCK = (3, 40) if seed % 2 else (1 << 12, 1 << 18)  # small pieces and large ones
     cut.FEW = 1 if seed == 2 else 12  # both ways to look for literals
-    playing.Gates = NoGates if seed == 1 else Gates  # gates with values at random, and as they are defined
+    setattr(playing, "Gates", NoGates if seed == 1 else Gates)  # gates with values at random, and as they are defined
     arguments = Namespace(json=True, reply=[], random=str(seed), write=os.path.join(folder, f"states{seed}"), qu=any_pivot)
     os.mkdir(arguments.write)
-    path = trimmed(str(formula), str(trace), TOOL.flags_of(arguments), folder)
+    path = trimmed(str(formula), str(trace), TOOL.flags_of(arguments), str(folder))
     game = TOOL.Collected(arguments, State(str(formula), path, any_pivot), Names(), Checker(arguments.write, True, TOOL.flags_of(arguments)))
     game.to_the_end()
     return game.found
 
 
-def try_game(formula, trace, any_pivot, seed, folder):
+def try_game(formula: Any, trace: Any, any_pivot: bool, seed: int, folder: Path) -> tuple[int, int]:
     """Plays a game and compares it with the formula. Raises Wrong."""
     found = played(formula, trace, any_pivot, seed, folder)
     blocks, clauses = read_formula(Path(formula).read_text())
@@ -144,7 +156,7 @@ def try_game(formula, trace, any_pivot, seed, folder):
     return len(found["moves"]), sum(len(move["open"]) for move in found["moves"])
 
 
-def try_failing(found, formula, is_true):
+def try_failing(found: dict[str, Any], formula: Any, is_true: bool) -> None:
     """At the end the clauses are named that are false, and no others."""
     true = {literal for move in found["moves"] for literal in move["values"]}
     _, clauses = read_formula(Path(formula).read_text())
@@ -158,7 +170,7 @@ def try_failing(found, formula, is_true):
     )
 
 
-def try_state(blocks, clauses, move, is_true):
+def try_state(blocks: Blocks, clauses: Clauses, move: dict[str, Any], is_true: bool) -> None:
     """The files of a state are the formula that is left, and a proof of it; the winner has not lost it."""
     require(read_formula(Path(move["formula"]).read_text()) == (blocks, clauses), f"block {move['block']}: the formula that is left")
     require(move["line"] == f"VERIFIED {str(is_true).lower()}", f"block {move['block']}: verified")
@@ -167,7 +179,7 @@ def try_state(blocks, clauses, move, is_true):
         require(truth(pairs_of(blocks), clauses) == is_true, f"block {move['block']}: the winner has lost the game")
 
 
-def try_open(blocks, clauses, move, is_true):
+def try_open(blocks: Blocks, clauses: Clauses, move: dict[str, Any], is_true: bool) -> None:
     """Of variables that the proof leaves open every value wins."""
     if move["open"] and len(pairs_of(blocks)) <= 8:
         fixed = [literal for literal in move["values"] if abs(literal) not in move["open"]]
@@ -177,23 +189,24 @@ def try_open(blocks, clauses, move, is_true):
             require(truth(pairs_of(left), rest) == is_true, f"block {move['block']}: open, but it loses with {sorted(values)}")
 
 
-def outcome(case):
+def outcome(case: Any) -> tuple[str, Optional[str], int, int]:
     """Plays some games. The name of the case, what was wrong if anything, and how many moves and open variables there were."""
     name, files, any_pivot, seeds = case
     moves = are_open = 0
     with tempfile.TemporaryDirectory() as folder:
         if name.startswith("random "):
-            files = written(folder, int(name.split()[1]))
+            files = written(Path(folder), int(name.split()[1]))
         for seed in seeds:
             try:
-                found = try_game(*files, any_pivot, seed, folder)
+                formula, trace = files
+                found = try_game(formula, trace, any_pivot, seed, Path(folder))
             except (Exception, SystemExit) as fault:  # an exception of the tool is a failure too
                 return name, f"{type(fault).__name__}: {fault}", moves, are_open
             moves, are_open = moves + found[0], are_open + found[1]
     return name, None, moves, are_open
 
 
-def written(folder, seed):
+def written(folder: Path, seed: int) -> Any:
     """The files of a random case."""
     _, _, _, formula, trace = random_case(seed)
     paths = Path(folder) / "formula", Path(folder) / "trace"
@@ -202,7 +215,7 @@ def written(folder, seed):
     return paths
 
 
-def stored_cases():
+def stored_cases() -> Iterator[Any]:
     folder = ROOT / "tests" / "traces"
     for row in (folder / "expected.tsv").read_text().splitlines()[1:]:
         formula, trace = row.split("\t")[:2]
@@ -214,12 +227,12 @@ def stored_cases():
             yield f"{example.name}.{ending} by any pivot", files, True, (4, 5)
 
 
-def random_cases():
+def random_cases() -> Iterator[Any]:
     for seed in range(SEEDS):
         yield f"random {seed}", None, random_case(seed)[2], (1, 2)
 
 
-def try_games(pool):
+def try_games(pool: Any) -> None:
     for cases in stored_cases(), random_cases():
         moves = are_open = 0
         for name, wrong, some, more in pool.map(outcome, cases, chunksize=4):
@@ -231,7 +244,7 @@ def try_games(pool):
 # Damaged proofs
 
 
-def try_damaged(case):
+def try_damaged(case: Any) -> tuple[str, str]:
     """A damaged proof is refused, or its game is as it has to be."""
     name, formula, trace, any_pivot = case
     with tempfile.TemporaryDirectory() as folder:
@@ -239,7 +252,7 @@ def try_damaged(case):
         for path, text in zip(paths, (formula, trace)):
             path.write_text(text)
         try:
-            try_game(*paths, any_pivot, 1, folder)
+            try_game(paths[0], paths[1], any_pivot, 1, Path(folder))
             return name, "played"
         except Ends as fault:
             return name, "refused" if fault.status == 1 and "refuses the proof" in str(fault) else f"{fault.status} {fault}"
@@ -247,7 +260,7 @@ def try_damaged(case):
             return name, f"{type(fault).__name__}: {fault}"
 
 
-def damaged_cases():
+def damaged_cases() -> Iterator[Any]:
     for example in "blind-box", "eight-matches", "carry-from-tables":
         folder = ROOT / "examples" / example
         pairs = damages(folder / f"{example}.qdimacs", folder / f"{example}.trimmed.qrp")
@@ -256,7 +269,7 @@ def damaged_cases():
                 yield f"damage {number} of {example}", formula, trace, number % 2 == 1
 
 
-def try_damages(pool):
+def try_damages(pool: Any) -> None:
     seen = {"played": 0, "refused": 0}
     for name, found in pool.map(try_damaged, damaged_cases(), chunksize=4):
         expect(name, found in seen, found)
@@ -267,13 +280,13 @@ def try_damages(pool):
 # The command
 
 
-def play(*words, program=None, **options):
+def play(*words: object, program: Any = None, **options: Any) -> Ended:
     environment = dict(os.environ, **({"QRP_CMD": str(program)} if program else {}))
     options = {"stdin": subprocess.DEVNULL, "stdout": subprocess.PIPE, "stderr": subprocess.PIPE, "text": True, "env": environment, **options}
     return subprocess.run([sys.executable, PLAY, *map(str, words)], check=False, timeout=60, **options)
 
 
-def example(name):
+def example(name: str) -> tuple[Path, Path]:
     return ROOT / "examples" / name / f"{name}.qdimacs", ROOT / "examples" / name / f"{name}.qrp"
 
 
@@ -295,7 +308,7 @@ block 5 (existential) is the other player's: 9 10
 """
 
 
-def try_text():
+def try_text() -> None:
     """What is printed of a game, as text and as JSON, by numbers and by names."""
     told = play(*REPLIES, *MATCHES)
     expect("the text of a game", (told.returncode, told.stdout, told.stderr) == (0, TOLD, ""), told)
@@ -321,7 +334,7 @@ def try_text():
             )
 
 
-def try_replies():
+def try_replies() -> None:
     """Replies that are wrong, and those at random."""
     for replies, said in (
         (["--reply", "1"], "no value of 2"),
@@ -380,12 +393,12 @@ FORMS = [
 ]
 
 
-def try_forms():
+def try_forms() -> None:
     """The forms in which a reply may give a value."""
     with tempfile.TemporaryDirectory() as folder:
         path = Path(folder) / "names"
         path.write_text(BUS)
-        names = Names(path)
+        names = Names(str(path))
     for word, literals in FORMS:
         expect(f"a reply {word[:20]!r}", names.literals(word) == literals, names.literals(word))
     expect("the values of buses", sorted(names.values([1, -2, 3, 4])) == [("a", 5)], list(names.values([1, -2, 3, 4])))
@@ -416,7 +429,7 @@ e 4 5 6 7 8 9 0
 WIDE = range(1, 12)
 
 
-def try_gates():
+def try_gates() -> None:
     """Which variables clauses define, and the values that gates give them."""
     gates = Gates(Formula(CIRCUIT.encode()), [4, 5, 6, 7, 8, 9])
     expect("gates: and, xor, a choice, or; not what a clause only bounds", sorted(gates.definitions) == [4, 5, 6, 7], gates.definitions)
@@ -424,7 +437,7 @@ def try_gates():
         given = {variable if value else -variable for variable, value in ((1, one), (2, two), (3, three))}
         values = {8: 8, 9: -9}
         gates.set_to(values, given)
-        wanted = {4: one and two, 5: one != three, 6: one if three else two, 7: one and two or one != three}
+        wanted: Any = {4: one and two, 5: one != three, 6: one if three else two, 7: one and two or one != three}
         expect(f"gates of {sorted(given)}", all(values[v] == (v if is_true else -v) for v, is_true in wanted.items()), values)
     values = {4: 4, 8: 8, 9: -9}
     gates.set_to(values, {-1, -2, -3})
@@ -452,7 +465,7 @@ def try_gates():
             )
 
 
-def try_end():
+def try_end() -> None:
     """The gates of the other player's last block are not asked for, and the clauses that are false are named."""
     names = ROOT / "examples" / "blind-box" / "blind-box.names"
     told = play("--names", names, "--reply", "box=0", *BOX)
@@ -482,7 +495,7 @@ def try_end():
     expect("a wrong value", wrong.returncode == 2 and said in wrong.stderr, wrong)
 
 
-def try_small():
+def try_small() -> None:
     """A goal that is an initial step, a formula without variables, without clauses, and empty sets."""
     cases = (
         ("p cnf 3 1\na 1 3 0\n1 -3 0\n", "p qrp 0 0\n7 0 0\nr unsat\n", "block 1 (universal), by the proof: -1 3\n"),
@@ -516,7 +529,7 @@ def try_small():
             expect(f"{count} variables, of which two have names", f"by the proof: {said}" in told.stdout, told)
 
 
-def try_any_pivot():
+def try_any_pivot() -> None:
     """By any pivot steps that could be reduced to nothing are used as antecedents, and literals of the outermost block are reduced in them."""
     clauses = [[-1, 3], [2, -3], [1, 5], [-5, 6, -2], [-6, -2]]
     formula_text = "p cnf 6 5\na 1 0\ne 2 0\na 3 5 0\ne 6 0\n" + "".join(" ".join(map(str, [*clause, 0])) + "\n" for clause in clauses)
@@ -532,7 +545,7 @@ def try_any_pivot():
         expect("any pivot, without --qu", plain.returncode == 1 and "REFUSED step 3 S10" in plain.stderr, plain)
 
 
-def try_files():
+def try_files() -> None:
     """--write, pipes, and files that cannot be used."""
     with tempfile.TemporaryDirectory() as folder:
         states = Path(folder) / "new" / "states"
@@ -549,6 +562,7 @@ def try_files():
         expect("a folder that cannot be made", full.returncode == 2 and "/dev/null/x cannot be used" in full.stderr, full)
     piped = subprocess.run(["bash", "-c", f"{sys.executable} {PLAY} <(cat {BOX[0]}) <(cat {BOX[1]})"], capture_output=True, text=True, check=False)
     expect("pipes", piped.stdout.startswith("VERIFIED false: the universal player wins\nblock 1 (universal), by the proof: -1 2\n"), piped)
+    words: Any
     for words in (
         [],
         [BOX[0]],
@@ -573,7 +587,7 @@ def try_files():
         )
 
 
-def try_terminal():
+def try_terminal() -> None:
     """At a terminal the values are asked for, until all are there or the user ends the play."""
     for lines, shown in (("1\nx\n-2\n\n", 6), ("\n", 2), ("\x04", 2)):
         master, slave = pty.openpty()
@@ -605,7 +619,7 @@ exec "$REAL" "$@"
 """
 
 
-def fake(folder, what, number):
+def fake(folder: Union[str, Path], what: str, number: int) -> tuple[dict[str, str], Path]:
     """A program that does this in place of a check, and the environment for it."""
     program, counts = Path(folder) / "fake", Path(folder) / "counts"
     program.write_text(FAKE.replace("{what}", what))
@@ -616,7 +630,7 @@ def fake(folder, what, number):
     return dict(os.environ, REAL=os.environ["QRP_CMD"], QRP_CMD=str(program), COUNTS=str(counts), N=str(number), TMPDIR=str(temporary)), temporary
 
 
-def try_own_fault():
+def try_own_fault() -> None:
     """A state that is not verified is never told as a move; its files are kept."""
     cases = (("echo REFUSED step 1 S4; exit 1", 3, "(REFUSED step 1 S4)"), ("echo VERIFIED true; exit 0", 3, "(VERIFIED true)"))
     others = (
@@ -640,7 +654,7 @@ def try_own_fault():
             expect(f"{what}: the files of --write", told.returncode == status and len(list(states.iterdir())) == 4, told)
 
 
-def try_signals():
+def try_signals() -> None:
     """A signal while the program runs ends the tool without a word, and leaves nothing."""
     for number in signal.SIGINT, signal.SIGTERM:
         with tempfile.TemporaryDirectory() as folder:
@@ -663,7 +677,7 @@ def try_signals():
             expect(f"{number.name}: the program has ended", ended)
 
 
-def main():
+def main() -> int:
     os.environ["QRP_CMD"] = os.path.abspath(sys.argv[1])
     signal.signal(signal.SIGINT, signal.default_int_handler)  # a run in the background ignores interrupts, and so would all that it starts
     with ProcessPoolExecutor(min(4, os.cpu_count() or 1)) as pool:

@@ -11,12 +11,18 @@ import sys
 import tempfile
 import time
 import types
+from collections.abc import Callable, Sequence
 from pathlib import Path
+from types import ModuleType
+from typing import Any, Union
 
 ROOT = Path(__file__).resolve().parents[2]
 sys.path[:0] = [str(ROOT / "tests"), str(ROOT / "tools")]
 sys.dont_write_bytecode = True
 from expect import expect, finish, skip  # noqa: E402
+
+Ended = subprocess.CompletedProcess[Any]
+Program = Union[str, Path]
 
 SOLVE = ROOT / "tools" / "solve"
 TRACES = ROOT / "tests" / "traces"
@@ -48,7 +54,7 @@ exit $status
 class Use:
     """Uses of the tool with a folder for its temporary files."""
 
-    def __init__(self, folder, program):
+    def __init__(self, folder: Any, program: Program) -> None:
         self.folder, self.temporary = Path(folder), Path(folder) / "temporary"
         self.temporary.mkdir()
         self.environment = dict(os.environ, QRP_CMD=str(program), TMPDIR=str(self.temporary), PYTHONDONTWRITEBYTECODE="1")
@@ -58,13 +64,14 @@ class Use:
             path.write_text(SOLVER)
             path.chmod(0o755)
 
-    def words(self, solver, *words):
+    def words(self, solver: str, *words: object) -> list[str]:
         return [sys.executable, str(SOLVE), "--solver", str(self.folder / solver), *map(str, words)]
 
-    def run(self, words, **options):
-        return subprocess.run(words, capture_output=True, text=True, check=False, timeout=60, **{"env": self.environment, **options})
+    def run(self, words: Sequence[Any], **options: Any) -> Ended:
+        options = {"env": self.environment, **options}
+        return subprocess.run(words, capture_output=True, text=True, check=False, timeout=60, **options)
 
-    def expect(self, name, ended, status, out, said=""):
+    def expect(self, name: str, ended: Ended, status: int, out: str, said: str = "") -> None:
         """Expects a status, the output and words on the standard error; no traceback, and no temporary file."""
         holds = ended.returncode == status and ended.stdout == out and said in ended.stderr and "Traceback" not in ended.stderr
         expect(f"solve, {name}", holds and bool(ended.stderr) == bool(said), (status, out, said, ended))
@@ -72,8 +79,9 @@ class Use:
         expect(f"solve, {name}: nothing is left", not left, left)
 
 
-def try_answers(use):
+def try_answers(use: Use) -> None:
     false, true = "s cnf 0 12 13\n", "s cnf 1 9 33\n"
+    mode: Any
     for mode in [], ["--mode", "traditional"], ["--mode=lazy"]:
         use.expect(f"false {mode}", use.run(use.words("depqbf", *mode, FALSE)), 20, false)
         use.expect(f"true {mode}", use.run(use.words("depqbf", *mode, TRUE)), 10, true)
@@ -94,7 +102,7 @@ def try_answers(use):
     use.expect("not in the way", use.run(use.words("depqbf", "--timeout", "50", FALSE)), 20, false)
 
 
-def try_moves(use):
+def try_moves(use: Use) -> None:
     """--play adds the first move, which has to be verified."""
     plan = "".join(f"V {literal} 0\n" for literal in (1, -2, -3, 4, 5, -6, 7, -8, -9, -10, -11, -12))
     use.expect("the winner's block", use.run(use.words("depqbf", "--play", ROBOT)), 10, "s cnf 1 71 217\n" + plan)
@@ -129,7 +137,7 @@ def try_moves(use):
     use.temporary.mkdir()
 
 
-def try_files(use):
+def try_files(use: Use) -> None:
     kept = use.folder / "kept.qrp"
     use.expect("a proof that is kept", use.run(use.words("depqbf", "--keep", kept, FALSE)), 20, "s cnf 0 12 13\n")
     expect("solve, the kept proof", kept.read_bytes() == (TRACES / "kbkf3.trad.qrp").read_bytes())
@@ -157,7 +165,7 @@ def try_files(use):
     use.expect("a pipe", piped, 0, "s cnf -1 12 13\n", "no answer")
 
 
-def try_keeping(use, kept):
+def try_keeping(use: Use, kept: Path) -> None:
     """The file that is kept is the formula in no case, and an older proof stays if there is no new one."""
     formula = use.folder / "own.qdimacs"
     formula.write_bytes(FALSE.read_bytes())
@@ -167,6 +175,7 @@ def try_keeping(use, kept):
         use.expect(f"the formula as proof, {name.name}", ended, 2, "s cnf -1 12 13\n", f"{name} is the formula: name another file for the proof")
         expect("solve, the formula as proof: it stays", formula.read_bytes() == FALSE.read_bytes())
     before = kept.read_bytes()
+    words: Any
     for solver, words, status in ("slow", ["--timeout", "0.5"], 0), ("silent", [], 0), ("broken", [], 1), ("none", [], 2):
         ended = use.run(use.words(solver, *words, "--keep", kept, FALSE))
         expect(f"solve, {solver}: the older proof stays", ended.returncode == status and kept.read_bytes() == before, ended)
@@ -185,7 +194,7 @@ def try_keeping(use, kept):
     )
 
 
-def try_status(use):
+def try_status(use: Use) -> None:
     """The program's line with another status is no verdict."""
     program = use.folder / "odd"
     program.write_text('#!/bin/sh\n[ "$1" = format ] && exit 0\necho VERIFIED false\nexit 1\n')
@@ -195,7 +204,7 @@ def try_status(use):
     use.expect("VERIFIED with another status", ended, 1, "s cnf -1 12 13\n", said)
 
 
-def try_wrapped(use):
+def try_wrapped(use: Use) -> None:
     """A solver that a script starts ends with the tool, after a time and a signal."""
     pid = use.folder / "pid"
     ended = use.run(use.words("wrapper", "--timeout", "1", FALSE))
@@ -212,7 +221,7 @@ def try_wrapped(use):
     use.temporary.mkdir()
 
 
-def wait_until(condition):
+def wait_until(condition: Callable[[], object]) -> object:
     """Whether this holds within half a minute."""
     until = time.monotonic() + 30
     while not condition() and time.monotonic() < until:
@@ -220,7 +229,7 @@ def wait_until(condition):
     return condition()
 
 
-def try_full_folder(use):
+def try_full_folder(use: Use) -> None:
     """A folder for temporary files that is full. It needs a file system of its own, which a user may make in a name space of its own."""
     make = ["unshare", "--user", "--map-root-user", "--mount", "bash", "-c", 'mount -t tmpfs -o size=16k none "$TMPDIR" && exec "$@"', "bash"]
     if not shutil.which("unshare") or subprocess.run([*make, "true"], env=use.environment, check=False, capture_output=True).returncode:
@@ -230,7 +239,8 @@ def try_full_folder(use):
     use.expect("a full TMPDIR", ended, 2, "s cnf -1 24 25\n", "the proof cannot be written to ")
 
 
-def try_words(use):
+def try_words(use: Use) -> None:
+    words: Any
     for words in (
         [],
         ["--mode", "other", FALSE],
@@ -247,7 +257,7 @@ def try_words(use):
         use.expect(f"the seconds {word}", ended, 2, "", f"argument --timeout: '{word}' is not a number of seconds above 0")
     ended = use.run(use.words("depqbf", "--help"))
     said = ["Exit status: 10 if", "20 if", "0 if", "2 if", "the output cannot be written; 130, 143 after an interrupt and after SIGTERM"]
-    text = " ".join(ended.stdout.split())
+    text: Any = " ".join(ended.stdout.split())
     expect("solve --help", ended.returncode == 0 and all(word in text for word in said), ended)
     for redirection, status, reason in (">&-", 2, "it is closed"), (">/dev/full", 2, "No space left on device"), ("<&- >/dev/null", 20, ""):
         ended = use.run(["bash", "-c", f'"$@" {redirection}', "bash", *use.words("depqbf", FALSE)])
@@ -262,7 +272,7 @@ def try_words(use):
         use.expect(f"the program: {name}", ended, 2, "s cnf -1 12 13\n", "SIGKILL" if text else "cannot be run")
 
 
-def runs(pid):
+def runs(pid: int) -> bool:
     """Whether a process runs; one that has ended and was not waited for does not."""
     try:
         return Path(f"/proc/{pid}/stat").read_text().rpartition(")")[2].split()[0] != "Z"
@@ -270,7 +280,7 @@ def runs(pid):
         return False
 
 
-def try_signals(use):
+def try_signals(use: Use) -> None:
     """A signal while the solver runs ends both without a word."""
     for number in signal.SIGINT, signal.SIGTERM, signal.SIGHUP:
         pid = use.folder / "pid"
@@ -288,7 +298,7 @@ def try_signals(use):
         expect(f"solve, {number.name}: the solver has ended", not runs(solver), solver)
 
 
-def try_depqbf(use):
+def try_depqbf(use: Use) -> None:
     """The solver itself."""
     if not shutil.which("depqbf"):
         skip("solve with the solver", "there is no depqbf")
@@ -301,14 +311,15 @@ def try_depqbf(use):
     use.expect("depqbf, --play", ended, 20, "s cnf 0 28 80\nV -1 0\nV 2 0\n")
 
 
-def try_benchexec(use):
+def try_benchexec(use: Use) -> None:
     """The module for BenchExec over a stand-in for it: the answer is that of the first line, and only with its status."""
-    result = types.ModuleType("benchexec.result")
+    result: Any = types.ModuleType("benchexec.result")
     result.RESULT_TRUE_PROP, result.RESULT_FALSE_PROP, result.RESULT_UNKNOWN, result.RESULT_ERROR = "true", "false", "unknown", "ERROR"
-    template = types.ModuleType("benchexec.tools.template")
+    template: Any = types.ModuleType("benchexec.tools.template")
     template.BaseTool2 = object
     expected = (ROOT / "VERSION").read_text().strip()
-    package, tools = types.ModuleType("benchexec"), types.ModuleType("benchexec.tools")
+    package: Any = types.ModuleType("benchexec")
+    tools: Any = types.ModuleType("benchexec.tools")
     package.result, package.tools, tools.template = result, tools, template
     sys.modules.update({"benchexec": package, "benchexec.result": result, "benchexec.tools": tools, "benchexec.tools.template": template})
     from qrptools.benchexec_solve import Tool  # noqa: PLC0415
@@ -335,7 +346,7 @@ def try_benchexec(use):
         expect(f"BenchExec, {output} {status}", tool.determine_result(run) == wanted, tool.determine_result(run))
 
 
-def try_benchexec_check(expected):
+def try_benchexec_check(expected: Any) -> None:
     """The module for 'qrp_cmd check': a verdict is that of the line, and only with its status."""
     from qrptools.benchexec_check import Tool  # noqa: PLC0415
 
@@ -357,7 +368,7 @@ def try_benchexec_check(expected):
         expect(f"BenchExec, a check, {output} {status}", tool.determine_result(run) == wanted, tool.determine_result(run))
 
 
-def main():
+def main() -> int:
     signal.signal(signal.SIGINT, signal.default_int_handler)  # a run in the background ignores interrupts, and so would all that it starts
     for part in try_answers, try_moves, try_files, try_status, try_wrapped, try_full_folder, try_words, try_signals, try_depqbf, try_benchexec:
         with tempfile.TemporaryDirectory() as folder:

@@ -11,7 +11,9 @@ import shutil
 import subprocess
 import sys
 import tempfile
+from collections.abc import Iterable, Iterator, Sequence, Set
 from pathlib import Path
+from typing import Any, Optional, Union
 
 ROOT = Path(__file__).resolve().parents[2]
 sys.path[:0] = [str(ROOT / "tests"), str(ROOT / "tools")]
@@ -25,6 +27,9 @@ from qrptools.step_rules import SIDES, distance, judge, missed_clauses, nearest_
 from qrptools.steps import Trace  # noqa: E402
 from random_proofs import random_formula  # noqa: E402
 
+Ended = subprocess.CompletedProcess[Any]
+Program = Union[str, Path]
+
 EXPLAIN = ROOT / "tools" / "explain"
 DRAW = ROOT / "tools" / "draw-proof"
 EXAMPLES = sorted(folder for folder in (ROOT / "examples").iterdir() if (folder / "make-formula").exists())
@@ -33,7 +38,7 @@ FAULTS = {f"S{n}" for n in range(1, 13)}
 EVERY = 16
 
 
-def run(script, *words, program):
+def run(script: Path, *words: object, program: Program) -> Ended:
     environment = dict(os.environ, QRP_CMD=str(program))
     return subprocess.run([sys.executable, script, *map(str, words)], capture_output=True, text=True, env=environment, check=False)
 
@@ -41,22 +46,22 @@ def run(script, *words, program):
 class Kept(Formula):
     """A formula whose clauses are kept, since they are asked for again and again."""
 
-    def __init__(self, path):
+    def __init__(self, path: Any) -> None:
         super().__init__(Path(path).read_bytes())
         self.all_blocks = list(super().blocks())
 
-    def blocks(self):
+    def blocks(self) -> Iterator[Any]:
         return iter(self.all_blocks)
 
 
-def read_trace(path):
+def read_trace(path: Any) -> Trace:
     return Trace(Path(path).read_bytes())
 
 
-def first_fault(formula, trace, any_pivot):
+def first_fault(formula: Formula, trace: Trace, any_pivot: bool) -> Optional[tuple[int, str]]:
     """The number and the fault of the first needed step that does not follow, None where all do."""
     core = Core(trace)
-    before = {}
+    before: dict[Any, Any] = {}
     for place, step in enumerate(trace.steps()):
         if core.needed[place]:
             finding = judge(formula, SIDES[trace.result], any_pivot, step, before)
@@ -66,17 +71,17 @@ def first_fault(formula, trace, any_pivot):
     return None
 
 
-def is_core_found(trace):
+def is_core_found(trace: Trace) -> bool:
     """Whether it is found of each step alone whether the proof needs it, as it is of all together."""
     needed = Core(trace).needed
     return all(is_needed(trace, step.number) == bool(needed[place]) for place, step in enumerate(trace.steps()))
 
 
-def check(program, formula, trace, *flags):
+def check(program: Program, formula: Any, trace: Any, *flags: str) -> str:
     return subprocess.run([program, "check", *flags, formula, trace], capture_output=True, text=True, check=False).stdout.strip()
 
 
-def try_rows(program, rows):
+def try_rows(program: Program, rows: Iterable[str]) -> None:
     """What the script finds of each row is what the program says, of a refused step with its number and without."""
     seen = set()
     for row in rows:
@@ -88,7 +93,9 @@ def try_rows(program, rows):
         expect(f"{flag} {line}, the needed steps", is_core_found(read_trace(trace)), row)
         if line.startswith("VERIFIED "):
             continue
-        number, fault = re.fullmatch(r"REFUSED step (\d+) (S\d+)", line).groups()
+        place = re.fullmatch(r"REFUSED step (\d+) (S\d+)", line)
+        assert place, line
+        number, fault = place.groups()
         seen.add(fault)
         shown = run(EXPLAIN, *flags, formula, trace, program=program)
         holds = shown.stdout.startswith(f"qrp_cmd says: {line}\n") and f"\nIt does not follow: {fault}. " in shown.stdout
@@ -102,7 +109,7 @@ def try_rows(program, rows):
     expect("the rows have all faults of steps", seen == FAULTS, sorted(FAULTS - seen))
 
 
-def step_damages(steps, place, unbound):
+def step_damages(steps: Any, place: int, unbound: int) -> Iterator[tuple[Any, Any, Any]]:
     """Other forms of a step: literals and antecedents left out, changed and added."""
     number, literals, antecedents = steps[place]
     for i in range(0, len(literals), max(1, len(literals) // 3)):
@@ -125,14 +132,15 @@ def step_damages(steps, place, unbound):
             yield number, literals, [*antecedents, other]
 
 
-def damages(formula, trace):
+def damages(formula: Path, trace: Path) -> Iterator[tuple[str, str]]:
     """The two texts with one thing changed, without the trace's quantifier sets: the result, each quantifier, a clause, each step."""
     kept = read_trace(trace)
     steps = [(step.number, step.literals, step.antecedents) for step in kept.steps()]
     text = formula.read_text()
     header = re.search(r"^p cnf (\d+) (\d+)$", text, re.MULTILINE)
+    assert header
 
-    def written(steps, result):
+    def written(steps: Any, result: str) -> str:
         words = ([number, *literals, 0, *antecedents, 0] for number, literals, antecedents in steps)
         return "p qrp 0 0\n" + "".join(" ".join(map(str, line)) + "\n" for line in words) + f"r {result}\n"
 
@@ -147,7 +155,7 @@ def damages(formula, trace):
             yield text, written([*steps[:place], step, *steps[place + 1 :]], kept.result)
 
 
-def agrees(program, formula, trace, flags, read):
+def agrees(program: Program, formula: Any, trace: Any, flags: Sequence[str], read: Formula) -> tuple[bool, str]:
     """Whether the program says of the files what the script finds; and the program's line. `read` is the formula."""
     line = check(program, formula, trace, *flags)
     found = first_fault(read, read_trace(trace), bool(flags))
@@ -156,7 +164,7 @@ def agrees(program, formula, trace, flags, read):
     return line.startswith("VERIFIED ") or (line == "REFUSED trace C4" and Core(read_trace(trace)).goal is None), line
 
 
-def try_damages(program, pairs):
+def try_damages(program: Program, pairs: Iterable[Any]) -> None:
     """On damaged proofs the script's first fault is the program's, by both sets of rules."""
     seen = set()
     with tempfile.TemporaryDirectory() as folder:
@@ -170,6 +178,7 @@ def try_damages(program, pairs):
                     changed_formula.write_text(formula_text)
                     last, read = formula_text, Kept(changed_formula)
                 changed_trace.write_text(trace_text)
+                flags: Any
                 for flags in [], ["--qu"]:
                     holds, line = agrees(program, changed_formula, changed_trace, flags, read)
                     seen.add(line.split()[-1])
@@ -177,21 +186,21 @@ def try_damages(program, pairs):
     expect("the damaged proofs have all faults of steps", FAULTS <= seen, sorted(FAULTS - seen))
 
 
-def try_proofs(program, pairs):
+def try_proofs(program: Program, pairs: Iterable[Any]) -> None:
     """In real proofs the script finds no fault."""
     for formula, trace in pairs:
         holds, line = agrees(program, formula, trace, [], Kept(formula))
         expect(f"{trace.name}: the program says {line}", holds and line.startswith("VERIFIED "))
 
 
-def nearest_of_all(formula, literals):
+def nearest_of_all(formula: Any, literals: Set[int]) -> Any:
     """The clause that gives a step, or else is nearest, by a comparison with each clause."""
     found = [(distance(formula, SIDES["unsat"], literals, clause), clause) for clause in formula.clauses()]
     given = [clause for far, clause in found if not any(far[:3])]
     return given[0] if given else min(found, key=lambda row: row[0], default=(None, None))[1]
 
 
-def try_nearest():
+def try_nearest() -> None:
     """The clause that is nearest to a step, and those that share no literal with it, are those that a look at each clause finds."""
     draw, seen = random.Random(5), set()
     for case in range(400):
@@ -213,7 +222,7 @@ def try_nearest():
     expect("the nearest clause lacks none, one, and more", {None, 0, 1, 2, 3} <= seen, seen)
 
 
-def try_places():
+def try_places() -> None:
     """The place of a variable is the same whether it is looked for alone or all sets are taken apart."""
     many = "".join(f"{'ae'[v % 2]} {v} 0\n" for v in range(1, 101))
     for name, sets in (
@@ -241,10 +250,11 @@ TEXT = re.compile(r"    (\d+) \[shape=\w+, label=<<B>\d+</B><BR/>(.*)>\];")
 LABEL = re.compile(r'    (\d+) -> (\d+) \[label="(.*)"\];')
 
 
-def marks_of(formula, steps):
+def marks_of(formula: Any, steps: Any) -> tuple[Any, Any]:
     """What the nodes and the edges of a proof have to show, by steps as lists of words: literals with the universal ones underlined; and of
     an antecedent the literal of the pivot, and whether another literal of it is gone."""
     universal = {word for line in formula.read_text().splitlines() if line.startswith("a") for word in line.split()[1:-1]}
+    literals: dict[Any, Any]
     literals, texts, labels = {}, {}, {}
     for step in steps:
         end = step.index("0")
@@ -263,18 +273,18 @@ def marks_of(formula, steps):
     return texts, labels
 
 
-def try_marks(program):
+def try_marks(program: Program) -> None:
     """What is underlined, the labels of the edges, the warning, and names in their places."""
     for formula, trace in [(f / f"{f.name}.qdimacs", f / f"{f.name}.trimmed.qrp") for f in EXAMPLES]:
-        steps = [line.split() for line in trace.read_text().splitlines() if line[0].isdigit()]
+        steps: Any = [line.split() for line in trace.read_text().splitlines() if line[0].isdigit()]
         texts, labels = marks_of(formula, steps)
         drawn = run(DRAW, "--force", formula, trace, program=program)
-        found = {
+        found: Any = {
             line[1]: [word for word in re.split(r"<I>&#160;</I>| |<BR/>", line[2]) if word]
             for line in map(TEXT.fullmatch, drawn.stdout.splitlines())
             if line
         }
-        wanted = {
+        wanted: Any = {
             number: text or (["empty", "clause"] if trace.read_text().endswith("unsat\n") else ["empty", "cube"]) for number, text in texts.items()
         }
         expect(
@@ -294,6 +304,7 @@ def try_marks(program):
                 f"p qrp 2 5\n1 1 2 0 0\n2 -1 2 0 0\n3 1 0 1 0\n{steps}{count - 1} -1 0 2 0\n{count} 0 {count - 2} {count - 1} 0\nr unsat\n"
             )
             expect(f"{count} steps: the warning", (f"these are {count} steps" in run(DRAW, formula, chain, program=program).stderr) == (count > 300))
+        words: Any
         for count, words, status in (2000, [], 0), (2001, [], 1), (2001, ["--force"], 0), (2001, ["--last", 2001], 0):
             steps = "".join(f"{n} 1 0 {n - 1} 0\n" for n in range(4, count - 1))
             last = f"{count - 1} -1 0 2 0\n{count} 0 {count - 2} {count - 1} 0\nr unsat\n"
@@ -315,7 +326,7 @@ def try_marks(program):
             skip("names in a picture", "there is no dot")
 
 
-def read_graph(name, text):
+def read_graph(name: str, text: str) -> tuple[Any, Any, Any]:
     """The nodes, the edges and the nodes of what is left out of the graph's text, which has to have the form that draw-proof gives it."""
     lines = text.splitlines()
     nodes = [(line[1], line[2]) for line in map(NODE.fullmatch, lines) if line]
@@ -327,7 +338,7 @@ def read_graph(name, text):
     return nodes, edges, stubs
 
 
-def try_drawings(program):
+def try_drawings(program: Program) -> None:
     """The graph of a proof has the steps that `trim` keeps as its nodes, and their antecedents as its edges."""
     pairs = [(f / f"{f.name}.qdimacs", f / f"{f.name}.qrp") for f in EXAMPLES]
     for formula, trace in [*pairs, (ROOT / "examples" / "two_clauses.qdimacs", ROOT / "examples" / "two_clauses.qrp")]:
@@ -357,7 +368,7 @@ def try_drawings(program):
             expect(f"{picture}: the edges", sorted(pair for pair in titles if pair[1]) == sorted(edges))
 
 
-def try_blanks(program):
+def try_blanks(program: Program) -> None:
     """Blanks more than one, leading zeros and lines that hold half a step change nothing of what is drawn and said, of more than one block."""
     formula, steps = ROOT / "examples" / "two_clauses.qdimacs", "".join(f"{number} 1 2 0 0\n" for number in range(6, 30000))
     text = (ROOT / "examples" / "two_clauses.qrp").read_text().replace("r unsat", f"{steps}r unsat")
@@ -375,9 +386,11 @@ def try_blanks(program):
                 expect(f"{words}: {name}", changed != text and found.stdout == wanted.stdout and found.returncode == 0 == wanted.returncode, found)
 
 
-def other_layouts(text, dice):
+def other_layouts(text: str, dice: random.Random) -> Iterator[tuple[str, str, bool]]:
     """The trace in other layouts, as a name and its text, and whether its steps are lines as DepQBF writes them."""
-    sets, steps, result = re.fullmatch(r"((?:[pae].*\n)+)((?:\d.*\n)*)(r .*\n)", text).groups()
+    parts = re.fullmatch(r"((?:[pae].*\n)+)((?:\d.*\n)*)(r .*\n)", text)
+    assert parts
+    sets, steps, result = parts.groups()
     lines = steps.splitlines(keepends=True)
     yield "as it is", text, True
     yield "capitals", sets + steps + result.replace("r ", "r").upper().replace("R", "r "), True
@@ -396,7 +409,7 @@ def other_layouts(text, dice):
     yield "no steps", sets + result, False
 
 
-def try_near(pairs):
+def try_near(pairs: Iterable[Any]) -> None:
     """A step of a right trace that is found without reading those before it is the step that reading finds, with all that it names."""
     dice, found, all_near = random.Random(2), 0, 0
     for _, path in pairs:
@@ -410,7 +423,7 @@ def try_near(pairs):
     expect("many are found so", found > all_near / 2 > 50, (found, all_near))
 
 
-def long_traces(dice):
+def long_traces(dice: random.Random) -> Iterator[tuple[str, str, Any]]:
     """Traces that are longer than what is looked through at once, each as a name, its text and some numbers of steps."""
     up = range(1, 5001)
     for name, numbers in (
@@ -428,7 +441,7 @@ def long_traces(dice):
         yield f"{name}, with some lines that go on", text.replace("5 0 ", "5\n0 "), some[:3]
 
 
-def try_long_traces():
+def try_long_traces() -> None:
     """So is a step of a long trace, also one that names steps that are not there."""
     found = missing = 0
     for name, text, numbers in long_traces(random.Random(3)):
@@ -440,7 +453,7 @@ def try_long_traces():
     expect("many steps of long traces are found so, and some that name others that are missing", found > 40 and missing > 10, (found, missing))
 
 
-def try_lines_alike():
+def try_lines_alike() -> None:
     """So is one in the middle of steps of one literal, and none if each of these lines ends a step and begins the next one."""
     lines = "".join(f"{number} {number % 900 + 1} 0 {number + 10000} {number % 800 + 1} 0\n" for number in range(1, 3001))
     for name, begin, text, is_found in (
@@ -461,7 +474,7 @@ def try_lines_alike():
             expect(f"lines alike {name}: step {number}", is_left or (near, result) == (again, wanted), (near, result, again, wanted))
 
 
-def try_odd_steps():
+def try_odd_steps() -> None:
     """Lines that look like the step that is looked for, and are not it."""
     for name, text, number in (
         ("literals", "p qrp 9 9\n1 -2 3 0 0\n4 -1 5\n7 -2 -3 0 0\n7 8 0 0\nr sat\n", 7),
@@ -488,7 +501,7 @@ def try_odd_steps():
         expect(f"a line that looks like a step: {name}", near is None or (near, result) == (again, wanted), (near, result, again, wanted))
 
 
-def near_and_read(text, number):
+def near_and_read(text: str, number: int) -> Any:
     """A step as it is found without those before it, and as it is read, each with the result that is then known."""
     traces = Trace(text.encode()), Trace(text.encode())
     found = [find(trace, number) for find, trace in zip((find_near, find_step), traces)]
@@ -496,9 +509,10 @@ def near_and_read(text, number):
     return zip(found, [trace.result for trace in traces])
 
 
-def try_words(program):
+def try_words(program: Program) -> None:
     """Command lines that are wrong end with status 2, and a text that is no trace with 1."""
     formula, trace = ROOT / "examples" / "two_clauses.qdimacs", ROOT / "examples" / "two_clauses.qrp"
+    words: Any
     for words in (
         [],
         [formula],
@@ -514,7 +528,7 @@ def try_words(program):
     expect("no trace", ended.returncode == 1 and ended.stderr, ended)
 
 
-def main():
+def main() -> int:
     program, rows, unreadable = sys.argv[1:]
     for row in Path(unreadable).read_text().splitlines():
         expect(row, False)

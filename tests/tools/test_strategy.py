@@ -16,13 +16,19 @@ import shutil
 import subprocess
 import sys
 import tempfile
+from collections.abc import Callable, Sequence
 from pathlib import Path
+from typing import Any, Optional, Union
 
 ROOT = Path(__file__).resolve().parents[2]
 sys.path[:0] = [str(ROOT / "tests"), str(ROOT / "tests" / "strategy")]
 sys.dont_write_bytecode = True
 from circuits import Lost, check_strategy, read_circuit, read_formula  # noqa: E402
 from expect import expect, finish, skip  # noqa: E402
+
+Ended = subprocess.CompletedProcess[Any]
+Program = Union[str, Path]
+Found = tuple[list[str], list[str], Callable[[dict[str, Any]], dict[str, Any]]]
 
 TOOL, PLAY, SOLVE = (ROOT / "tools" / name for name in ("explain-strategy", "play", "solve"))
 BOX = ROOT / "examples" / "blind-box" / "blind-box"
@@ -38,7 +44,7 @@ ODD = ["module", "a[0]", "a[1]", "g3", "v1", 'quo"te', "back\\", "x#y", "two=2",
 class Use:
     """Uses of the tools with these programs, in a folder."""
 
-    def __init__(self, program, folder):
+    def __init__(self, program: Program, folder: Any) -> None:
         self.program, self.folder = Path(program), Path(folder)
         self.strategy = self.program.parent / "qrp_strategy"
         self.temporary = self.folder / "temporary"
@@ -46,24 +52,24 @@ class Use:
         self.environment = dict(os.environ, QRP_CMD=str(program), TMPDIR=str(self.temporary), PYTHONDONTWRITEBYTECODE="1")
         self.environment.pop("QRP_STRATEGY", None)
 
-    def run(self, tool, *words, **options):
+    def run(self, tool: Union[str, Path], *words: object, **options: Any) -> Ended:
         options = {"env": self.environment, "encoding": "utf-8", **options}
         return subprocess.run([sys.executable, str(tool), *map(str, words)], capture_output=True, check=False, timeout=300, **options)
 
-    def shown(self, *words):
+    def shown(self, *words: object) -> str:
         """What is printed, of a use that goes well."""
         ended = self.run(TOOL, *words)
         expect(f"explain-strategy {words}: ends well", ended.returncode == 0 and not ended.stderr, ended)
         return ended.stdout
 
-    def expect(self, name, ended, status, out, said=""):
+    def expect(self, name: str, ended: Ended, status: int, out: Any, said: str = "") -> None:
         """Expects a status, the output and words on the standard error; no traceback, and no temporary file."""
         holds = ended.returncode == status and ended.stdout == out and said in ended.stderr and "Traceback" not in ended.stderr
         expect(f"strategy: {name}", holds and bool(ended.stderr) == bool(said), (status, out, said, ended))
         left = list(self.temporary.iterdir())
         expect(f"strategy: {name}: nothing is left", not left, left)
 
-    def write(self, name, text):
+    def write(self, name: str, text: Union[str, bytes]) -> Path:
         path = self.folder / name
         path.write_bytes(text if isinstance(text, bytes) else text.encode())
         return path
@@ -73,10 +79,10 @@ class Use:
 # inputs to those of the outputs, by label
 
 
-def of_circuit(circuit):
+def of_circuit(circuit: Any) -> Found:
     """A circuit of AIGER, by its symbols."""
 
-    def run(values):
+    def run(values: dict[str, Any]) -> dict[str, Any]:
         known = {0: 0, **{literal: values[circuit.names[f"i{at}"]] for at, literal in enumerate(circuit.inputs)}}
         value = lambda literal: known[literal & ~1] ^ literal & 1
         for left, one, other in circuit.gates:
@@ -86,7 +92,7 @@ def of_circuit(circuit):
     return [circuit.names[f"i{at}"] for at in range(len(circuit.inputs))], [circuit.names[f"o{at}"] for at in range(len(circuit.outputs))], run
 
 
-def of_text(text, labels):
+def of_text(text: str, labels: Any) -> Found:
     """The expressions of the text, as those of Python. These are the labels of the inputs."""
     rows = [line[4:].partition(" = ") for line in text.splitlines() if line.startswith("    ") and not line.startswith("    as numbers")]
     known = {label: place for place, label in enumerate([*labels, *(left for left, _, _ in rows)])}
@@ -95,7 +101,7 @@ def of_text(text, labels):
     python = lambda right: re.sub(r"1 - (values\[\d+\])", r"(1 - \1)", "".join(words(right)))
     code = [(left, compile(python(right), left, "eval")) for left, _, right in rows]
 
-    def run(values):
+    def run(values: dict[str, Any]) -> dict[str, Any]:
         found = {known[label]: value for label, value in values.items()}
         for left, right in code:
             found[known[left]] = eval(right, {"values": found})  # noqa: S307
@@ -104,17 +110,17 @@ def of_text(text, labels):
     return labels, [left for left, _ in code], run
 
 
-def of_dot(text):
+def of_dot(text: str) -> Found:
     """The nodes of a graph by their label; the gates have numbers in an order."""
     found = re.findall(r'^    (\w+) \[label="(.*)", shape=(\w+)\];$', text, re.MULTILINE)
     nodes = {name: (re.sub(r"\\(.)", r"\1", label), shape) for name, label, shape in found}
-    edges = {}
+    edges: dict[Any, Any] = {}
     for start, end, circle in re.findall(r"^    (\w+) -> (\w+)( \[arrowhead=odot\])?;$", text, re.MULTILINE):
         edges.setdefault(end, []).append((start, bool(circle)))
     gates = sorted((name for name, (_, shape) in nodes.items() if shape == "circle"), key=lambda name: int(name[1:]))
     labels = lambda kind: [label for label, shape in nodes.values() if shape == kind]
 
-    def run(values):
+    def run(values: dict[str, Any]) -> dict[str, Any]:
         known = {"false": 0, **{name: values[label] for name, (label, shape) in nodes.items() if shape == "box"}}
         for name in [*gates, *(name for name, (_, shape) in nodes.items() if shape == "doubleoctagon")]:
             known[name] = min(known[start] ^ circle for start, circle in edges[name])
@@ -123,7 +129,7 @@ def of_dot(text):
     return labels("box"), labels("doubleoctagon"), run
 
 
-def rows_of(text):
+def rows_of(text: str) -> tuple[Any, Any, Any]:
     """The rows of a table: the labels of the inputs and outputs, and the values of each row."""
     lines = [[part.split() for part in line.split(" | ")] for line in text.splitlines()]
     lines = [[[], *line] if len(line) == 1 else line for line in lines]
@@ -131,7 +137,7 @@ def rows_of(text):
     return inputs, outputs, [(dict(zip(inputs, map(int, left))), dict(zip(outputs, map(int, right)))) for left, right in rows]
 
 
-def by_program(name, words, made):
+def by_program(name: str, words: Sequence[Any], made: Path) -> Any:
     """The circuit that a program has made of a text."""
     made.unlink(missing_ok=True)
     done = subprocess.run(words, capture_output=True, text=True, check=False)
@@ -139,7 +145,7 @@ def by_program(name, words, made):
     return of_circuit(read_circuit(made.read_bytes())) if expect(f"{name}: it is read by {words[0]}", is_read, done) else None
 
 
-def of_verilog(use, name, text):
+def of_verilog(use: Use, name: str, text: str) -> Any:
     path, made = use.write("strategy.v", text), use.folder / "by_yosys.aag"
     script = f"read_verilog {path}; hierarchy -check -top strategy; proc; flatten; aigmap; clean; write_aiger -ascii -symbols {made}"
     found = by_program(name, ["yosys", "-q", "-p", script], made)
@@ -147,7 +153,7 @@ def of_verilog(use, name, text):
     return found and (*([one or other for one, other in some] for some in ports), found[2])
 
 
-def of_blif(use, name, text):
+def of_blif(use: Use, name: str, text: str) -> Any:
     path, made = use.write("strategy.blif", text), use.folder / "by_abc.aig"
     found = by_program(name, ["berkeley-abc", "-c", f"read_blif {path}; strash; write_aiger -s {made}"], made)
     lines = text.replace("\\\n", "").splitlines()
@@ -160,7 +166,7 @@ def of_blif(use, name, text):
 class Given:
     """A formula with a circuit: its file, and what it does by a simulation."""
 
-    def __init__(self, name, formula, path, names=None):
+    def __init__(self, name: str, formula: Any, path: Path, names: Any = None) -> None:
         self.name, self.formula, self.path, self.names = name, formula, path, names
         self.text = read_formula(formula.read_text())
         self.circuit = read_circuit(path.read_bytes())
@@ -172,10 +178,10 @@ class Given:
         values = itertools.product((0, 1), repeat=len(symbols)) if self.is_whole else ([pick.randint(0, 1) for _ in symbols] for _ in range(RUNS))
         self.runs = [dict(zip(symbols, row)) for row in values]
 
-    def words(self, *words):
+    def words(self, *words: object) -> list[Any]:
         return [*words, "--circuit", self.path, *(["--names", self.names] if self.names else []), self.formula]
 
-    def expect_same(self, kind, found, inputs=None):
+    def expect_same(self, kind: str, found: Any, inputs: Any = None) -> None:
         """Expects that what was read back does what the circuit does. These are the symbols of its inputs, if they are not all."""
         inputs = list(self.runs[0]) if inputs is None else inputs
         outputs = list(self.run(self.runs[0]))
@@ -189,11 +195,11 @@ class Given:
         expect(f"{self.name}, {kind}: the outputs of each run", all(wanted == got for wanted, got in pairs), pairs)
 
 
-def called(given, symbols):
+def called(given: Given, symbols: Any) -> list[str]:
     return [given.called.get(symbol, symbol) for symbol in symbols]
 
 
-def try_formats(use, given):
+def try_formats(use: Use, given: Given) -> None:
     """Each format of a circuit, read back."""
     inputs, outputs = list(given.runs[0]), list(given.run(given.runs[0]))
     text = use.shown(*given.words())
@@ -227,7 +233,7 @@ def try_formats(use, given):
         )
 
 
-def try_table(use, given, outputs):
+def try_table(use: Use, given: Given, outputs: Any) -> None:
     """The table of all outputs, or of some: a row for all values of the inputs that they depend on."""
     for some in [outputs, *([output] for output in random.Random(given.name).sample(outputs, min(3, len(outputs))))]:
         ended = use.run(TOOL, *given.words("--format", "table", *(["--only", ",".join(some)] if some else [])))
@@ -237,7 +243,7 @@ def try_table(use, given, outputs):
         use.expect(f"{given.name}: a table of {some}", ended, 1, "", "inputs, and a table has at most 8: choose outputs by --only or --block")
 
 
-def is_table(given, some, text):
+def is_table(given: Given, some: Any, text: str) -> bool:
     """Whether each row is that of the simulation, whatever the inputs are that the table does not have."""
     inputs, results, rows = rows_of(text)
     symbol = dict(zip(called(given, given.runs[0]), given.runs[0]))
@@ -252,19 +258,19 @@ def is_table(given, some, text):
     return True
 
 
-def examples():
+def examples() -> list[tuple[Path, Path]]:
     traces = sorted(ROOT.glob("examples/**/*.qrp"))
     return [(trace.with_suffix(".qdimacs"), trace) for trace in traces if trace.with_suffix(".qdimacs").is_file()]
 
 
-def made(use, formula, trace, flags=("--binary",)):
+def made(use: Use, formula: Path, trace: Path, flags: Sequence[str] = ("--binary",)) -> bytes:
     """The circuit of a proof, by the program."""
     done = subprocess.run([use.strategy, *flags, formula, trace], capture_output=True, check=False)
     expect(f"qrp_strategy of {trace.name}", done.returncode == 0, done)
     return done.stdout
 
 
-def try_examples(use):
+def try_examples(use: Use) -> None:
     """The circuits of the examples: all formats with and without names, the same of a trace, and what they say of blind-box."""
     for formula, trace in examples():
         path = use.write(f"{formula.stem}.aig", made(use, formula, trace))
@@ -286,7 +292,7 @@ def try_examples(use):
 class Sample:
     """A random formula, and a circuit for it in which outputs depend on earlier blocks alone; whether it wins is open."""
 
-    def __init__(self, seed):
+    def __init__(self, seed: int) -> None:
         pick = random.Random(seed)
         self.variables = list(range(1, pick.randint(2, 9) + 1))
         rest, letter = pick.sample(self.variables, len(self.variables)), pick.choice("ae")
@@ -299,6 +305,7 @@ class Sample:
         self.clauses = [[literal() for _ in range(pick.randint(1, 4))] for _ in range(pick.choice((0, 1, 2, 3, 6)))]
         self.winner = pick.choice("ae")
         self.inputs = [variable for letter, some in self.blocks if letter != self.winner for variable in some]
+        self.gates: list[Any]
         self.gates, self.outputs = [], []
         wires, literals = [0], iter(range(2, 2 * len(self.inputs) + 1, 2))
         for letter, some in self.blocks:
@@ -310,17 +317,17 @@ class Sample:
                     self.add_gate(wires, pick)
                 self.outputs.append((variable, pick.choice(wires[-4:]) ^ pick.randint(0, 1)))
 
-    def add_gate(self, wires, pick):
+    def add_gate(self, wires: Any, pick: random.Random) -> None:
         left = 2 * (len(self.inputs) + len(self.gates) + 1)
         both = sorted((pick.choice(wires[-6:]) ^ pick.randint(0, 1) for _ in "ab"), reverse=True)
         self.gates.append((left, *both))
         wires.append(left)
 
-    def formula(self):
+    def formula(self) -> str:
         lines = [f"p cnf {len(self.variables)} {len(self.clauses)}", *(f"{letter} {' '.join(map(str, some))} 0" for letter, some in self.blocks)]
         return "".join(line + "\n" for line in [*lines, *(" ".join(map(str, [*clause, 0])) for clause in self.clauses)])
 
-    def aag(self):
+    def aag(self) -> str:
         counts = len(self.inputs) + len(self.gates), len(self.inputs), 0, len(self.outputs), len(self.gates)
         lines = [" ".join(map(str, ("aag", *counts))), *(str(2 * place + 2) for place in range(len(self.inputs)))]
         lines += [*(str(literal) for _, literal in self.outputs), *(" ".join(map(str, gate)) for gate in self.gates)]
@@ -328,7 +335,7 @@ class Sample:
         return "".join(line + "\n" for line in lines)
 
 
-def wins(given, is_true):
+def wins(given: Given, is_true: bool) -> Optional[bool]:
     """Whether a circuit wins, as all plays say, or of many inputs a SAT solver. None if there is no such solver."""
     solver = shutil.which("cadical") or ""
     if len(given.circuit.inputs) > 12 and not solver:
@@ -340,7 +347,7 @@ def wins(given, is_true):
         return False
 
 
-def try_random_circuits(use):
+def try_random_circuits(use: Use) -> None:
     """Circuits with any gates, constants among their inputs, and odd names; and whether they win."""
     answers, solver = [], shutil.which("depqbf")
     for seed in range(RANDOM_CIRCUITS):
@@ -356,7 +363,7 @@ def try_random_circuits(use):
             try_verified(use, given, answer)
             if not seed % 3:
                 try_verified(use, given, answer, "--solver", "depqbf")
-    expect("some random circuits win, and some do not", not solver or 2 < sum(answers) < RANDOM_CIRCUITS - 2, answers)
+    expect("some random circuits win, and some do not", not solver or 2 < sum(map(bool, answers)) < RANDOM_CIRCUITS - 2, answers)
     for program in "yosys", "berkeley-abc", "dot":
         if not shutil.which(program):
             skip(f"formats read by {program}", f"there is no {program}")
@@ -367,7 +374,7 @@ def try_random_circuits(use):
 WINS = "the circuit wins: no output depends on a later block, and qrp_cmd has verified that no run is lost\n"
 
 
-def try_verified(use, given, wanted, *words):
+def try_verified(use: Use, given: Given, wanted: Any, *words: object) -> None:
     """What --verify says of a circuit; the run that it shows is lost."""
     ended = use.run(TOOL, *given.words("--verify", *words))
     if wanted:
@@ -376,16 +383,16 @@ def try_verified(use, given, wanted, *words):
     use.expect(f"{given.name} does not win", ended, 1, "", "the circuit does not win: with ")
     found = re.search(r": with (.*) (?:clause (\d+), in line \d+ of the formula, is false|all clauses hold)\n$", ended.stderr)
     number = {label: symbol for symbol, label in given.called.items()}
-    words = [] if not found or found[1] == "no input" else found[1].split()
-    values = {number.get(word.removeprefix("-"), word.removeprefix("-")): int(word[0] != "-") for word in words}
+    inputs: list[str] = [] if not found or found[1] == "no input" else found[1].split()
+    values = {number.get(word.removeprefix("-"), word.removeprefix("-")): int(word[0] != "-") for word in inputs}
     if not expect(f"{given.name}: the inputs of a run", sorted(values) == sorted(given.runs[0]), ended.stderr):
         return
     true = {int(symbol) if value else -int(symbol) for symbol, value in {**values, **given.run(values)}.items()}
     false = [number for number, clause in enumerate(given.text.clauses, 1) if true.isdisjoint(clause)]
-    expect(f"{given.name}: the run is lost", (str(false[0]) if false else None) == found[2], (false, ended.stderr))
+    expect(f"{given.name}: the run is lost", (str(false[0]) if false else None) == (found and found[2]), (false, ended.stderr))
 
 
-def try_examples_verified(use):
+def try_examples_verified(use: Use) -> None:
     """The circuits of the examples win. With one gate or output changed they win only if all plays say so."""
     if not shutil.which("depqbf"):
         skip("whether circuits win", "there is no depqbf")
@@ -407,7 +414,7 @@ def try_examples_verified(use):
         expect(f"{trace.name}: changes are found", found > 0, found)
 
 
-def try_solvers(use):
+def try_solvers(use: Use) -> None:
     """A solver that is not there, has no answer, a wrong one, or a wrong proof."""
     path = use.write("box.aag", made(use, Path(f"{BOX}.qdimacs"), Path(f"{BOX}.qrp"), ()))
     for name, script, status, said in (
@@ -425,7 +432,7 @@ def try_solvers(use):
         use.expect(f"the solver is {name}", ended, status, "", said)
 
 
-def try_sat_solvers(use):
+def try_sat_solvers(use: Use) -> None:
     """A SAT solver that is not there, has no answer or a wrong one, does not end, or writes what does not follow by unit propagation."""
     path = use.write("box.aag", made(use, Path(f"{BOX}.qdimacs"), Path(f"{BOX}.qrp"), ()))
     rat = 'for last; do :; done; echo "1 0" > "$last"; '
@@ -462,7 +469,7 @@ def try_sat_solvers(use):
     use.expect("by a solver that writes what follows by RAT, but with --plain", ended, 0, WINS)
 
 
-def try_smaller(use):
+def try_smaller(use: Use) -> None:
     """A circuit that berkeley-abc makes smaller keeps its symbols, is read again, and wins."""
     if not shutil.which("berkeley-abc"):
         skip("circuits made smaller", "there is no berkeley-abc")
@@ -541,7 +548,7 @@ WRONG = [
 ]
 
 
-def try_wrong_circuits(use):
+def try_wrong_circuits(use: Use) -> None:
     """What is not a circuit for the formula is refused, with the file and the reason."""
     formula, path = use.write("formula.qdimacs", FORMULA), use.write("circuit", RIGHT)
     use.expect(
@@ -550,8 +557,10 @@ def try_wrong_circuits(use):
         0,
         "the universal player's strategy: 2 outputs, 1 input, 0 gates\nblock 1 (universal)\n    1 = true\nblock 3 (universal)\n    3 = !2\n",
     )
+    data: Any
     for name, data, said in WRONG:
         path = use.write("circuit", data)
+        more: Any
         for more in [], ["--verify"], ["--format", "blif"]:
             ended = use.run(TOOL, *more, "--circuit", path, formula)
             use.expect(f"{name} {more}", ended, 1, "", said)
@@ -568,7 +577,7 @@ def try_wrong_circuits(use):
     use.expect("a formula with a fault in a clause", use.run(TOOL, "--verify", "--circuit", path, other), 1, "", "the formula has F4 in line 6: ")
 
 
-def try_no_variables(use):
+def try_no_variables(use: Use) -> None:
     """Formulas and circuits without some kind of variable."""
     for formula, text, wanted in (
         ("p cnf 0 0\n", "aag 0 0 0 0 0\n", "existential"),
@@ -586,7 +595,7 @@ def try_no_variables(use):
             use.expect(f"no variables: {formula!r}", use.run(TOOL, "--verify", *words), 0, WINS)
 
 
-def try_expressions(use):
+def try_expressions(use: Use) -> None:
     """What follows from the other terms is left out, and gates are written out if that leaves them one place."""
     for gates, outputs, wanted in (
         ("8 4 2|10 9 2", [10], ["a = x & !y"]),
@@ -625,12 +634,13 @@ def try_expressions(use):
     )
 
 
-def try_odd_names(use):
+def try_odd_names(use: Use) -> None:
     """Names of any bytes come back as they went, in any locale; names that mean something elsewhere are changed, and --only takes each name."""
     formula = use.write("formula", "p cnf 3 0\na 1 0\ne 2 3 0\n")
     names = use.write("names", b"1 \xff\n2 caf\xc3\xa9,x\n3 1'b0\n")
     plain = use.write("circuit", "aag 1 1 0 2 0\n2\n2\n3\ni0 1\no0 2\no1 3\n")
-    words = ["--names", names, "--format", "aag", "--circuit"]
+    words: list[Any] = ["--names", names, "--format", "aag", "--circuit"]
+    variables: Any
     for variables in {}, {"LC_ALL": "C"}, {"LC_ALL": "C", "PYTHONUTF8": "0", "PYTHONCOERCECLOCALE": "0"}:
         environment = {"env": {**use.environment, **variables}, "encoding": "utf-8", "errors": "surrogateescape"}
         ended = use.run(TOOL, *words, plain, formula, **environment)
@@ -660,7 +670,7 @@ def try_odd_names(use):
     use.expect("justice", use.run(TOOL, "--circuit", path, formula), 1, "", "the circuit has justice properties, and that of a strategy has none")
 
 
-def try_buses(use):
+def try_buses(use: Use) -> None:
     """The ports of a module with buses are those of the names, whatever the outputs depend on."""
     formula = use.write("formula", "p cnf 7 0\na 1 2 3 0\ne 4 5 6 0\na 7 0\n")
     names = use.write("names", "1 d[0]\n2 d[1]\n3 en@0\n4 h[0]\n5 h[1]\n6 k[1]\n7 k[0]\n")
@@ -680,7 +690,7 @@ def try_buses(use):
             expect(f"buses of {lines}: yosys", subprocess.run(read, check=False, capture_output=True).returncode == 0, text)
 
 
-def try_choices(use):
+def try_choices(use: Use) -> None:
     """--only and --block."""
     formula = use.write("formula", "p cnf 6 0\na 1 2 0\ne 3 4 5 0\na 6 0\n")
     gates = "aag 6 3 0 3 3\n2\n4\n6\n9\n11\n13\n8 4 2\n10 5 3\n12 11 9\n"
@@ -691,6 +701,7 @@ def try_choices(use):
         "    y[0] = !x[0] | !x[1]\n    y[1] = x[0] | x[1]\n",
         "    g4 = x[0] & x[1]\n    y[0] = !g4\n    g5 = !x[0] & !x[1]\n    y[1] = !g5\n    z = g4 | g5\n",
     )
+    words: Any
     for words, wanted in (
         ([], head.format("3 outputs, 3 inputs, 3 gates") + z),
         (["--block", "2"], head.format("3 outputs, 2 inputs, 3 gates") + z),
@@ -722,8 +733,8 @@ def try_choices(use):
         + "".join(f"i{number - 1} {number}\n" for number in range(1, 11))
         + "o0 11\n",
     )
-    found = use.shown("--circuit", path, formula).splitlines()[2:]
-    expect("a large conjunction is cut", found == ["    g17 = 1 & 2 & 3 & 4 & 5 & 6 & 7 & 8", "    11 = 9 & 10 & g17"], found)
+    outputs = use.shown("--circuit", path, formula).splitlines()[2:]
+    expect("a large conjunction is cut", outputs == ["    g17 = 1 & 2 & 3 & 4 & 5 & 6 & 7 & 8", "    11 = 9 & 10 & g17"], outputs)
     use.expect(
         "a table that is too large",
         use.run(TOOL, "--format", "table", "--circuit", path, formula),
@@ -746,7 +757,7 @@ def try_choices(use):
     expect("names like constants", "    false_ = !true_\n" in use.shown("--names", names, "--circuit", path, formula))
 
 
-def try_words(use):
+def try_words(use: Use) -> None:
     """Wrong command lines, files that are not there, and programs that are not there."""
     box, path = (f"{BOX}.qdimacs", f"{BOX}.qrp"), use.write("circuit", RIGHT)
     for words in (
@@ -817,7 +828,7 @@ def try_words(use):
         )
 
 
-def try_gates(use):
+def try_gates(use: Use) -> None:
     """The gates of the formula are left out by --only-free: variables of the innermost block that clauses define by variables before them."""
     # 3 is free, 4 the conjunction of 1 and 3, 5 that of 2 and 4; 6 is free, though 7 is its negation.
     clauses = ["4 -1 -3", "-4 1", "-4 3", "5 -2 -4", "-5 2", "-5 4", "6 7", "-6 -7"]
@@ -825,6 +836,8 @@ def try_gates(use):
     names = use.write("names", "1 x\n2 y\n3 z\n4 and\n5 both\n6 free\n7 negated\n")
     path = use.write("circuit", "aag 3 2 0 5 1\n2\n4\n1\n2\n6\n0\n1\n6 4 2\ni0 1\ni1 2\n" + "".join(f"o{at} {at + 3}\n" for at in range(5)))
     head = "the existential player's strategy: {}\nblock 2 (existential)\n"
+    wanted: Any
+    words: Any
     for words, wanted in (
         (["--only-free"], head.format("2 outputs, 0 inputs, 0 gates") + "    z = true\n    free = false\n"),
         (["--only-free", "--only", "both,z"], head.format("1 output, 0 inputs, 0 gates") + "    z = true\n"),
@@ -848,7 +861,7 @@ def try_gates(use):
     expect("a universal winner has no gates", not found or found.startswith("the universal player's strategy: 5 outputs,"), found)
 
 
-def seconds_of(use, *words):
+def seconds_of(use: Use, *words: Any) -> tuple[float, str]:
     """The seconds of a processor that a command takes, and what it prints."""
     before = resource.getrusage(resource.RUSAGE_CHILDREN)
     ended = use.run(*words)
@@ -857,9 +870,10 @@ def seconds_of(use, *words):
     return after.ru_utime - before.ru_utime, ended.stdout
 
 
-def try_large(use):
+def try_large(use: Use) -> None:
     """A large circuit of many blocks is shown and played in a small multiple of the time in which it is read and written."""
     blocks, size = 400, 150  # of inputs, and gates of each output
+    gates: list[Any]
     pick, gates, outputs = random.Random(1), [], []
     literal = lambda block: 2 * (pick.randrange(2 * block) + 1) + pick.randint(0, 1)
     for block in range(1, blocks + 1):
@@ -886,7 +900,7 @@ def try_large(use):
 # ---- the tools that use strategies
 
 
-def try_play(use):
+def try_play(use: Use) -> None:
     """Games by a circuit: the moves are those of the circuit, and the end is that of the matrix."""
     for formula, trace in examples():
         path = use.write("game.aig", made(use, formula, trace))
@@ -905,7 +919,7 @@ def try_play(use):
             own = {abs(literal): int(literal > 0) for move in found["moves"] if move["by"] == "circuit" for literal in move["values"]}
             wanted = given.run({symbol: values[int(symbol)] for symbol in given.runs[0]})
             expect(f"play, {formula.stem}, {seed}: the moves", own == {int(symbol): value for symbol, value in wanted.items()}, (own, wanted))
-            end = found["winner"], found["matrix"], found["verified"], bool(found["failing"])
+            end: Any = found["winner"], found["matrix"], found["verified"], bool(found["failing"])
             expect(f"play, {formula.stem}, {seed}: the end", end == (winner, winner == "existential", None, winner == "universal"), found)
     box, path = f"{BOX}.qdimacs", use.write("box.aag", made(use, Path(f"{BOX}.qdimacs"), Path(f"{BOX}.qrp"), ()))
     begun = "the universal player plays by the circuit\nblock 1 (universal), by the circuit: -a0 b0\n"
@@ -916,6 +930,7 @@ def try_play(use):
     ended = use.run(PLAY, "--names", f"{BOX}.names", "--reply", "box", "--random", "1", "--strategy", lost, box)
     end = "no variable is left, and the matrix holds: the universal player has lost\n"
     expect("strategy: play, a circuit that does not win", ended.returncode == 1 and ended.stdout.endswith(end) and not ended.stderr, ended)
+    words: Any
     for words in (
         [box],
         ["--strategy", path, box, f"{BOX}.qrp"],
@@ -931,7 +946,7 @@ def try_play(use):
     use.expect("play, a formula with a fault", use.run(PLAY, "--strategy", path, path), 1, "", "the formula has F2 in line 1: ")
 
 
-def try_solve(use):
+def try_solve(use: Use) -> None:
     """The strategy that tools/solve writes, as a whole or not at all."""
     solver = use.write("depqbf", f"#!/bin/sh\ncat '{BOX}.qrp'\nexit 20\n")
     solver.chmod(0o755)
@@ -949,6 +964,7 @@ def try_solve(use):
     for path in wrong, failing:
         path.chmod(0o755)
     environment = {**use.environment, "QRP_STRATEGY": str(failing)}
+    more: Any
     for name, words, status, said, more in (
         ("a proof that is refused", ["--solver", wrong, "--strategy", kept], 1, "the solver answers false, and qrp_cmd says REFUSED", {}),
         ("a program that fails", [*first, "--strategy", kept], 2, "qrp_strategy ended with status 3", {"env": environment}),
@@ -988,7 +1004,7 @@ def try_solve(use):
     )
 
 
-def try_full_folder(use):
+def try_full_folder(use: Use) -> None:
     """A folder for temporary files that is full. It needs a file system of its own, which a user may make in a name space of its own."""
     make = ["unshare", "--user", "--map-root-user", "--mount", "bash", "-c", 'mount -t tmpfs -o size=16k none "$TMPDIR" && exec "$@"', "bash"]
     if not shutil.which("unshare") or subprocess.run([*make, "true"], env=use.environment, check=False, capture_output=True).returncode:
@@ -998,6 +1014,8 @@ def try_full_folder(use):
     large.chmod(0o755)
     path = use.write("box.aag", made(use, Path(f"{BOX}.qdimacs"), Path(f"{BOX}.qrp"), ()))
     formula = use.write("formula.qdimacs", Path(f"{BOX}.qdimacs").read_text().replace("p cnf 28 80", "p cnf 28 4080") + "1 2 3 -1 0\n" * 4000)
+    environment: Any
+    words: Any
     for what, words, environment in (
         ("the circuit", [f"{BOX}.qdimacs", f"{BOX}.qrp"], {"QRP_STRATEGY": str(large)}),
         ("the formula of a lost run", ["--verify", "--circuit", path, formula], {}),
@@ -1041,7 +1059,7 @@ WITHOUT_PROGRAM = [
 LEAST = 2065
 
 
-def main():
+def main() -> int:
     program = os.path.abspath(sys.argv[1])
     parts = PARTS
     if not (Path(program).parent / "qrp_strategy").is_file():

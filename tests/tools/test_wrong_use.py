@@ -16,13 +16,18 @@ import sys
 import tempfile
 import time
 from collections import namedtuple
+from collections.abc import Callable, Iterator, Sequence
 from pathlib import Path
 from types import SimpleNamespace
+from typing import Any, Optional, Union
 
 ROOT = Path(__file__).resolve().parents[2]
 sys.path[:0] = [str(ROOT / "tests")]
 sys.dont_write_bytecode = True
 from expect import expect, finish, skip  # noqa: E402
+
+Ended = subprocess.CompletedProcess[Any]
+Program = Union[str, Path]
 
 FORMULA, TRACE = ROOT / "examples" / "two_clauses.qdimacs", ROOT / "examples" / "two_clauses.qrp"
 REFUSED = "p qrp 0 0\nr unsat\n"  # by C4
@@ -63,20 +68,20 @@ TOOLS = [
 class Trial:
     """One use of a tool in a folder of its own, where its temporary files are too."""
 
-    def __init__(self, tool, program, folder):
+    def __init__(self, tool: Tool, program: Program, folder: Path) -> None:
         self.tool, self.program, self.folder = tool, program, Path(folder)
         self.temporary = self.folder / "temporary"
         self.temporary.mkdir()
         self.environment = dict(os.environ, TMPDIR=str(self.temporary), PYTHONDONTWRITEBYTECODE="1")
         self.take(program)
 
-    def take(self, program):
+    def take(self, program: Program) -> None:
         """Has the tool run this program: in place of both, unless it is the one that is tested."""
         self.environment.update(QRP_CMD=str(program), QRP_STRATEGY=str(program))
         if program == self.program:
             del self.environment["QRP_STRATEGY"]  # which is beside it
 
-    def words(self, formula=FORMULA, trace=TRACE, rows=None):
+    def words(self, formula: Any = FORMULA, trace: Any = TRACE, rows: Optional[Path] = None) -> list[str]:
         """The command line, with these files. A circuit stands in the place of the formula."""
         if "LIST" in self.tool.words and rows is None:
             rows = self.folder / "list"
@@ -95,12 +100,12 @@ class Trial:
         }
         return [sys.executable, str(ROOT / "tools" / self.tool.name), *(str(files.get(word, word)) for word in self.tool.words)]
 
-    def write(self, name, text):
+    def write(self, name: str, text: str) -> Path:
         path = self.folder / name
         path.write_text(text)
         return path
 
-    def solver(self):
+    def solver(self) -> Path:
         """A solver that writes the proof of the formula."""
         path = self.folder / "solver"
         if not path.exists():
@@ -108,7 +113,7 @@ class Trial:
             path.chmod(0o755)
         return path
 
-    def run(self, words, **options):
+    def run(self, words: Sequence[Any], **options: Any) -> Ended:
         """What it ends with, without what a list left for the next use."""
         options = {"stdout": subprocess.PIPE, "stderr": subprocess.PIPE, **options}
         ended = subprocess.run(words, env=self.environment, check=False, text=True, timeout=60, **options)
@@ -116,11 +121,11 @@ class Trial:
             log.unlink()
         return ended
 
-    def in_shell(self, redirection):
+    def in_shell(self, redirection: str) -> Ended:
         """The right command line with a redirection of the shell."""
         return self.run(["bash", "-c", f'"$@" {redirection}', "bash", *self.words()])
 
-    def expect(self, name, ended, status, said=()):
+    def expect(self, name: str, ended: Ended, status: int, said: Sequence[str] = ()) -> None:
         """Expects a status and words on the standard error, no traceback, and no temporary file."""
         err = ended.stderr or ""
         holds = ended.returncode == status and all(word in err for word in said) and "Traceback" not in err and "Exception" not in err
@@ -129,12 +134,12 @@ class Trial:
         expect(f"{self.tool.name} {self.tool.words}: {name}: nothing is left", not left, left)
 
 
-def own(trial):
+def own(trial: Trial) -> str:
     """How a message of the tool begins."""
     return f"{trial.words()[1]}: "
 
 
-def try_arguments(trial):
+def try_arguments(trial: Trial) -> None:
     words = trial.words()
     for name, wrong in ("no argument", words[:2]), ("a wrong option", [*words, "--other"]), ("one file too many", [*words, "1", "2", "3"]):
         ended = trial.run(wrong)
@@ -152,7 +157,7 @@ def try_arguments(trial):
     expect(f"{trial.tool.name}: --version", ended.stdout.startswith(f"{words[1]} of qrp_cmd {version or ''}") and not ended.stderr, ended)
 
 
-def unreadable(folder):
+def unreadable(folder: Path) -> list[tuple[str, Path, str]]:
     """Names of files that cannot be opened or read, with the reason."""
     (folder / "loop").symlink_to(folder / "loop")
     with socket.socket(socket.AF_UNIX) as bound:
@@ -171,7 +176,7 @@ def unreadable(folder):
     ]
 
 
-def try_files(trial):
+def try_files(trial: Trial) -> None:
     tool = trial.tool
     for name, path, reason in unreadable(trial.folder):
         if "LIST" in tool.words:
@@ -199,7 +204,7 @@ def try_files(trial):
     trial.expect("the files exchanged", trial.run(trial.words(TRACE, FORMULA)), tool.mistaken)
 
 
-def try_outputs(trial):
+def try_outputs(trial: Trial) -> None:
     """An output that is closed, full, or read by nobody."""
     cannot = own(trial) + "the standard output cannot be written: "
     wrong = trial.tool.output
@@ -217,7 +222,7 @@ def try_outputs(trial):
     trial.expect("--help to a full output", ended, wrong, [cannot + "No space left on device\n"])
 
 
-def sleeper(folder):
+def sleeper(folder: Path) -> Path:
     """A program that does not end by itself, and says in a file which process it is."""
     path = folder / "sleeper"
     path.write_text(f"#!/bin/sh\necho $$ >{folder}/pid.new\nmv {folder}/pid.new {folder}/pid\nexec sleep 100\n")
@@ -225,7 +230,7 @@ def sleeper(folder):
     return path
 
 
-def runs(pid):
+def runs(pid: int) -> bool:
     """Whether a process runs; one that has ended and was not waited for does not."""
     try:
         return Path(f"/proc/{pid}/stat").read_text().rpartition(")")[2].split()[0] != "Z"
@@ -233,7 +238,7 @@ def runs(pid):
         return False
 
 
-def wait_for(condition):
+def wait_for(condition: Callable[[], object]) -> bool:
     """Whether this holds within some seconds."""
     for _ in range(400):
         if condition():
@@ -242,7 +247,7 @@ def wait_for(condition):
     return False
 
 
-def try_signals(trial):
+def try_signals(trial: Trial) -> None:
     """A signal in the middle: while the program runs, or while a pipe is read into which nobody writes."""
     if trial.tool.runs:
         trial.take(sleeper(trial.folder))
@@ -257,11 +262,11 @@ def try_signals(trial):
 
 
 @contextlib.contextmanager
-def open_ends():
+def open_ends() -> Iterator[SimpleNamespace]:
     """Opens the ends of pipes to write, which can be done as soon as another process reads."""
     ends = []
 
-    def attempt(path):
+    def attempt(path: Path) -> bool:
         try:
             ends.append(os.open(path, os.O_WRONLY | os.O_NONBLOCK))
             return True
@@ -275,7 +280,7 @@ def open_ends():
             os.close(end)
 
 
-def try_early(trial):
+def try_early(trial: Trial) -> None:
     """A signal while the tool still imports its modules, of which one is made slow."""
     slow = trial.folder / "slow"
     slow.mkdir()
@@ -291,7 +296,7 @@ def try_early(trial):
     del trial.environment["PYTHONPATH"]
 
 
-def end_by(process, number):
+def end_by(process: subprocess.Popen[str], number: int) -> tuple[str, str]:
     """What a process prints that a signal ends. Python sees a signal that comes just before a call of the system that waits only when that
     returns: then it is sent once more."""
     for _ in range(5):
@@ -304,7 +309,7 @@ def end_by(process, number):
     return process.communicate()
 
 
-def try_signals_on(trial, name, words, begun):
+def try_signals_on(trial: Trial, name: str, words: Sequence[Any], begun: Any) -> None:
     pid = trial.folder / "pid"
     for number in signal.SIGTERM, signal.SIGINT, signal.SIGHUP:
         pid.unlink(missing_ok=True)
@@ -323,7 +328,7 @@ def try_signals_on(trial, name, words, begun):
             expect(f"{trial.tool.name} {trial.tool.words}: {title}: no process is left", wait_for(lambda: not runs(left)), left)
 
 
-def try_program(trial):
+def try_program(trial: Trial) -> None:
     """A program that is not there, is none, is killed, has no memory, or says what no program says."""
     name_of_program = "qrp_strategy" if trial.tool.name == "explain-strategy" else "qrp_cmd"
     for name, text, status, said in (
@@ -355,7 +360,7 @@ def try_program(trial):
     trial.take(trial.program)
 
 
-def try_memory(trial):
+def try_memory(trial: Trial) -> None:
     """Memory that is refused to a tool that reads a file as a whole."""
     large = trial.folder / "large"
     with open(large, "wb") as file:
@@ -366,7 +371,7 @@ def try_memory(trial):
     trial.expect("no memory", ended, 2, [own(trial) + "memory was refused: raise the limit (`ulimit -v`), or take a machine with more memory\n"])
 
 
-def try_full_folder(trial):
+def try_full_folder(trial: Trial) -> None:
     """A folder for temporary files that is full. It needs a file system of its own, which a user may make in a name space of its own."""
     trace = trial.folder / "large"
     trace.write_text(
@@ -387,7 +392,7 @@ def try_full_folder(trial):
     trial.expect("a pipe and a full TMPDIR", trial.run(piped), 2, [f"{own(trial)}a copy of /dev/stdin {full}it needs the size of the file)\n"])
 
 
-def try_old_systems(program):
+def try_old_systems(program: Program) -> None:
     """The tools ask for a later Python in words that older ones read, and take the static program if the system cannot load the other."""
     old = 'import sys; sys.version_info = (3, 8, 18); sys.version = "3.8.18 (main)"; exec(open(sys.argv[1]).read())'
     ended = subprocess.run([sys.executable, "-c", old, ROOT / "tools" / "qrptools" / "early.py"], capture_output=True, text=True, check=False)
@@ -407,7 +412,7 @@ def try_old_systems(program):
         loader.write_text("#!/bin/sh\necho \"$0: version 'GLIBC_2.34' not found\" >&2\nexit 1\n")
         loader.chmod(0o755)
         environment = {name: value for name, value in os.environ.items() if name != "QRP_CMD"}
-        words = [sys.executable, folder / "tools" / "explain", FORMULA, TRACE]
+        words = [sys.executable, str(folder / "tools" / "explain"), str(FORMULA), str(TRACE)]
         for static, status, said in (False, 1, "unknown line"), (True, 0, "qrp_cmd says: VERIFIED false\n"):
             if static:
                 (folder / "bin" / "qrp_cmd.static").symlink_to(program)
@@ -419,23 +424,12 @@ def try_old_systems(program):
 
 # Each function says its types, and each body is looked at.
 MYPY = ["mypy", "--disallow-untyped-defs", "--check-untyped-defs", "--scripts-are-modules"]
-TYPED_TESTS = [
-    "tests/expect.py",
-    "tests/pages.py",
-    "tests/bench/test-beside",
-    "tests/documents/test-pages",
-    "tests/gate/made_up_toolchain.py",
-    "tests/gate/test-checks",
-    "tests/gate/test-definitions",
-    "tests/library/test_solvers.py",
-    "tests/packaging/follow-pages",
-    "tests/packaging/unpack_image.py",
-    "tests/program/test-derivations",
-]
+# The folders whose modules the tests use, beside those of their own.
+TYPED = ["bench", "gate", "python", "tests", "tests/gate", "tests/gates", "tests/tools", "tests/strategy", "tools"]
 
 
-def try_types():
-    """The tools, the commands of the gate and of bench and their modules agree with their types."""
+def try_types() -> None:
+    """The tools, the commands of the gate and of bench, their modules and the tests agree with their types."""
     if not shutil.which("mypy"):
         skip("the types of the modules", "there is no mypy")
         return
@@ -458,14 +452,19 @@ def try_types():
             environment = {**os.environ, "MYPYPATH": others} if name == "bench" else None
             ended = subprocess.run(words, cwd=ROOT / name, env=environment, capture_output=True, text=True, check=False)
         expect(f"the types of the modules of {name}", ended.returncode == 0, ended.stdout)
+    tests: dict[Path, list[str]] = {}
+    for path in sorted((ROOT / "tests").rglob("*")):
+        if path.is_file() and is_python(path):
+            tests.setdefault(path.parent, []).append(str(path))
     with tempfile.TemporaryDirectory() as folder:
-        words = [*MYPY, "--follow-imports", "silent", "--python-version", "3.10", "--cache-dir", folder, *TYPED_TESTS]
-        others = os.pathsep.join(str(ROOT / name) for name in ("bench", "gate", "tests", "tests/gate", "tests/tools"))
-        ended = subprocess.run(words, cwd=ROOT, env={**os.environ, "MYPYPATH": others}, capture_output=True, text=True, check=False)
-    expect("the types of tests", ended.returncode == 0, ended.stdout)
+        for place, files in tests.items():  # two of them have modules of one name
+            words = [*MYPY, "--follow-imports", "silent", "--python-version", "3.10", "--cache-dir", folder, *files]
+            others = os.pathsep.join([str(place), *(str(ROOT / name) for name in TYPED)])
+            ended = subprocess.run(words, cwd=ROOT, env={**os.environ, "MYPYPATH": others}, capture_output=True, text=True, check=False)
+            expect(f"the types of {place.relative_to(ROOT)}", ended.returncode == 0, ended.stdout)
 
 
-def is_python(path):
+def is_python(path: Path) -> bool:
     """Whether a file is a module or a script of Python."""
     if path.suffix == ".py":
         return True
@@ -473,7 +472,7 @@ def is_python(path):
         return b"python3" in file.readline(60)
 
 
-def try_layout():
+def try_layout() -> None:
     """All of Python is laid out by black, of the version that Debian 12 has: another one may differ in small things."""
     version = subprocess.run(["black", "--version"], capture_output=True, text=True, check=False).stdout if shutil.which("black") else ""
     if not version.startswith("black, 23.1"):
@@ -485,7 +484,7 @@ def try_layout():
     expect("the layout of Python", ended.returncode == 0, ended.stderr)
 
 
-def main():
+def main() -> int:
     program = os.path.abspath(sys.argv[1])
     # A run in the background ignores interrupts, and so would all that it starts: these are tested here.
     signal.signal(signal.SIGINT, signal.default_int_handler)
@@ -506,7 +505,7 @@ def main():
         seen.add(tool.name)
         for trial in trials:
             with tempfile.TemporaryDirectory() as folder:
-                trial(Trial(tool, program, folder))
+                trial(Trial(tool, program, Path(folder)))
     try_old_systems(program)
     try_types()
     try_layout()
