@@ -42,7 +42,7 @@ A formula of gates, in QCIR-14, has calls of its own. A trace of it is one of th
     >>> qrp_check.gates_clauses(gates)
     b'p cnf 3 5\na 1 0\ne 2 3 0\n-3 1 2 0\n-3 -1 -2 0\n3 -1 2 0\n3 1 -2 0\n3 0\n'
     >>> qrp_check.gates_strategy(gates, trace)
-    b'aag 1 1 0 1 0\n2\n3\ni0 1\no0 2\n'
+    b'aag 1 1 0 1 0\n2\n3\ni0 a\no0 b\n'
 
 `verify_files`, `trim_files`, `core_files`, `strategy_files`, `gates_verify_files` and `gates_strategy_files` take names of files. A file of up to 1 GB is read, so another process may
 write or cut it meanwhile. A larger one is mapped: if it is cut meanwhile, the system ends this process (SIGBUS).

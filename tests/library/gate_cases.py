@@ -8,22 +8,23 @@ and how many did not.
 import pathlib
 import subprocess
 import sys
+from collections.abc import Iterator
 
 ROWS = pathlib.Path(__file__).resolve().parents[1] / "gates"
 
 
-def bytes_of(text):
+def bytes_of(text: str) -> bytes:
     """The bytes of a column of rows, as printf writes them."""
     return b"" if text == "-" else text.encode().decode("unicode_escape").encode("latin-1")
 
 
-def rows(name):
+def rows(name: str) -> list[list[str]]:
     """The columns of each row."""
     lines = (ROWS / name).read_text(encoding="utf-8").splitlines()
     return [line.split("\t") for line in lines if line and not line.startswith("#")]
 
 
-def cases():
+def cases() -> Iterator[tuple[bool, bytes, bytes, str, tuple[int, bytes]]]:
     """The flag, the two texts, and what the row says of which job: the status, and the answer."""
     for _, status, text, answer in rows("clauses.rows"):
         yield False, bytes_of(text), b"", "clauses", (int(status), bytes_of(answer))
@@ -36,7 +37,7 @@ def cases():
         yield "--qu" in flags, bytes_of(text), bytes_of(trace), job, (int(status), bytes_of(answer))
 
 
-def main(words):
+def main(words: list[str]) -> None:
     program, folder = words[0], pathlib.Path(words[1])
     right = wrong = 0
     with open(words[2], "w", encoding="ascii") as listed:

@@ -455,8 +455,8 @@ class Refusing:
     def __init__(self, library):
         self.library = library
 
-    def __getattr__(self, name: str) -> Callable[..., int]:
-        def call(*words: Any) -> int:
+    def __getattr__(self, name):
+        def call(*words):
             words[-1]._obj.status = 4
             return 0
         return getattr(self.library, name) if name.startswith("qrp_verdict") or name == "qrp_fault_text" else call
