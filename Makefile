@@ -43,7 +43,7 @@ MANDIR ?= $(PREFIX)/share/man
 
 # what is tested of what is built, but for the tests of the libraries
 TESTS = test-program test-strategy test-gates test-derivations test-tools test-examples test-library test-dist test-install test-many test-proofs \
-	test-definitions test-checks test-pages test-switches test-beside test-places
+	test-definitions test-checks test-pages test-switches test-beside test-places test-growth
 
 .PHONY: all lib static demo try check test programs linked check-programs gate bench dist wheel deb image install uninstall help
 .PHONY: clean test-refusals $(TESTS)
@@ -160,6 +160,9 @@ test-beside:
 
 test-places:
 	tests/program/test-places bin lib
+
+test-growth:
+	tests/bench/test-growth $(PROGRAM)
 
 gate:
 	RT=$(RT) gate/run

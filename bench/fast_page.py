@@ -18,8 +18,8 @@ PLAIN = "plain"
 # The rooms of the house beside those of the checker, by the crates at which each begins. What the rooms before need is none of the next ones.
 ROOMS = {
     "strategies": ["qrp_strategy"],
-    "the library": ["qrp_c"],
     "questions in gates": ["qcir", "gate_verify", "gate_strategy", "qrp_gates"],
+    "the library": ["qrp_c"],
     "completeness": ["qbf_completeness", "qrp_completeness"],
 }
 CHECKER, FAST, LINEAR, REST = "the checker", "fast ways", "what keeps a check linear", "laws, worked rows and tests"

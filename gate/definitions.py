@@ -149,6 +149,11 @@ class Definitions:
                 left += self.used_by(*one)
         return found
 
+    def lines(self, found: Iterable[Named]) -> int:
+        """How many lines some definitions have, without comments and blank lines."""
+        texts = [self.modules[module].own.get(name, "") for module, name in found if module in self.modules]
+        return sum(1 for text in texts for line in text.splitlines() if line.strip())
+
     def files(self, found: Iterable[Named]) -> list[str]:
         """The files of some definitions, without those that only pass names on."""
         return sorted({self.modules[module].path for module, _ in found if module in self.modules})

@@ -1,6 +1,6 @@
 -- The bytes of numbers and gates, one after the other.
-use Rattle.qbf_core.proofs.Cited.{arith, ◌≡◌, ◌<◌, ◌≤◌, ◌+◌, ◌-◌, ℕ, suc, List, [], ◌∷◌, ◌++◌, ap, ◌∙◌, sym, Some, slice_get, drop}
-use Rattle.qbf_core.proofs.Cited.{length}
+use Rattle.std.proofs.Common.{arith, ◌≡◌, ◌<◌, ◌≤◌, ◌+◌, ◌-◌, ℕ, suc, List, [], ◌∷◌, ◌++◌, ap, ◌∙◌, sym, Some, slice_get, drop}
+use Rattle.std.proofs.Common.{length}
 use Rattle.std.proofs.Common.{◌/◌, ◌%◌}
 use Rattle.std.specs.Prelude.{Ok, Option}
 use Rattle.std.proofs.Common.{subst}

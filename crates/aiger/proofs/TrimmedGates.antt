@@ -5,7 +5,7 @@ use Rattle.std.specs.Prelude.{IfSome}
 use Rattle.std.proofs.Common.{Option, add-one, take, sym, ap, subst, ◌∙◌, length, map, inl, inr, ◌⊎◌}
 use Rattle.std.proofs.lemmas.List.{length-append}
 use Rattle.std.specs.List.{AllByRecursion}
-use Rattle.qbf_core.proofs.Cited.{eqb_tells}
+use Rattle.std.proofs.lemmas.Bool.Decides.{eqb_tells}
 use Rattle.aiger.specs.Circuits.{AreValues, Circuit, Gate, IsOrdered, IsRun, KeepsGates, StandBelow, both, gate_value}
 use Rattle.aiger.specs.Trimming.{AddsGate, Agree, IsSame, IsSameCircuit, IsTrimming, OutputsSame}
 use Rattle.aiger.specs.Trimming.{PutsGate}

@@ -1,6 +1,6 @@
 -- The lines of inputs, gates and symbols, one after the other.
-use Rattle.qbf_core.proofs.Cited.{arith, ◌≡◌, ◌<◌, ◌+◌, ℕ, suc, List, ◌++◌, ap, refl, ◌∙◌, Some, slice_get, drop, length}
-use Rattle.qbf_core.proofs.Members.{at_place}
+use Rattle.std.proofs.Common.{arith, ◌≡◌, ◌<◌, ◌+◌, ℕ, suc, List, ◌++◌, ap, refl, ◌∙◌, Some, slice_get, drop, length}
+use Rattle.lists.proofs.PushedItems.{at_place}
 use Rattle.qbf_text.proofs.SentParts.{drop_at}
 use Rattle.aiger.specs.Texts.{gate_line, gate_lines, input_line, input_lines, symbol_line, symbol_lines, symbol_table}
 use Rattle.aiger.specs.declared.circuit.Gate.{Gate}

@@ -9,7 +9,7 @@ use Rattle.aiger.specs.Wires.{Wire}
 use Rattle.aiger.proofs.ReadCircuits.{AreRead, ascii_parts_back, binary_parts_back, count_names, goes_on, named_back, parts_of, table_back}
 use Rattle.qcir.specs.Names.{Name}
 use Rattle.qcir.specs.Texts.{name_of}
-use Rattle.qcir.proofs.WrittenTokens.{IsInside}
+use Rattle.qcir.proofs.WrittenLines.{IsInside}
 use Rattle.circuit_names.specs.Laws.{NamedCircuitsReadBack, gates_in}
 use Rattle.circuit_names.specs.Reading.{NamedCircuit, circuit_of, name_read, parts, with_byte, with_names}
 use Rattle.circuit_names.specs.Symbols.{named_text, symbol_table}

@@ -15,7 +15,7 @@ use Rattle.qbf_tokens.specs.Tokens.{is_line_end}
 use Rattle.qcir.specs.Names.{Name}
 use Rattle.qcir.specs.Reading.{Question}
 use Rattle.qcir.specs.Texts.{name_at, name_of}
-use Rattle.qcir.proofs.WrittenTokens.{IsInside, line_before}
+use Rattle.qcir.proofs.WrittenLines.{IsInside, line_before}
 use Rattle.circuit_names.specs.Laws.{AreNamed, VariablesAreNamed, symbol, table_lines}
 use Rattle.circuit_names.proofs.WordNames.{all_inside, names_are_words}
 

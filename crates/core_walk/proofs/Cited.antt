@@ -4,7 +4,8 @@ pub use Rattle.core_walk.specs.Core.{IsGoal, IsInCore, Needs, goal, next}
 pub use Rattle.core_walk.specs.Marks.{IsMarked}
 pub use Rattle.core_walk.specs.Premises.{premise_conditions}
 pub use Rattle.qbf_core.proofs.Bound.{bound_each}
-pub use Rattle.qbf_core.proofs.Members.{at_place, in_push, in_take, push_in, take_in}
+pub use Rattle.lists.proofs.PushedItems.{at_place}
+pub use Rattle.qbf_core.proofs.Members.{in_push, in_take, push_in, take_in}
 pub use Rattle.qbf_core.specs.Blocks.{AreBound, Block, IsBound}
 pub use Rattle.qbf_core.specs.Literal.{Literal}
 pub use Rattle.qbf_core.specs.Members.{◌∈◌, ◌⊆◌}

@@ -3,7 +3,7 @@ use Rattle.core_walk.proofs.Cited.{◌≡◌, ℕ, ◌<◌, ◌+◌, ◌⊎◌, 
 use Rattle.core_walk.proofs.Cited.{Literal, Inference, IsAt, same_self, slice_get, slice_get_within}
 use Rattle.std.proofs.lemmas.List.{length_push}
 use Rattle.qbf_core.specs.Sets.{HasMembersOf}
-use Rattle.qbf_core.proofs.PushedItems.{pushed_cases}
+use Rattle.lists.proofs.PushedItems.{pushed_cases}
 use Rattle.core_walk.specs.DistinctLits.{AreKept, HasMembersAt, IsKeptAt}
 use Rattle.core_walk.specs.declared.distinct_lits.DistinctLits.{DistinctLits}
 

@@ -6,7 +6,7 @@ use Rattle.std.proofs.Common.{set, replicate, length-set}
 use Rattle.std.proofs.lemmas.List.{length-replicate}
 use Rattle.core_walk.specs.Earlier.{FindsEarlier}
 use Rattle.core_walk.specs.Marks.{IsNamed, with_mark}
-use Rattle.qbf_core.proofs.PushedItems.{written_here, written_elsewhere}
+use Rattle.lists.proofs.PushedItems.{written_here, written_elsewhere}
 
 pub marked_set : (marks : List Bool) (i : ℕ) → i < length marks → (j : ℕ) → IsMarked (set marks i true) j ↔ (IsMarked marks j ⊎ (j ≡ i))
 marked_set marks i less j = search (rules, cases_eq, set, written_here, written_elsewhere)

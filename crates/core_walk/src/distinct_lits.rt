@@ -4,7 +4,8 @@ ghost use Rattle.std.specs.Prelude.{◌≡◌, ◌<◌, List, [], ◌∷◌, ◌
 ghost use Rattle.trace_items.specs.Inferences.{Inference};
 ghost use Rattle.core_walk.specs.DistinctLits.{AreKept, HasMembersAt, IsKeptAt};
 
-use qbf_core::{GrowingLists, Lit, LitBuffer};
+use lists::GrowingLists;
+use qbf_core::{Lit, LitBuffer};
 use std::alloc::{AllocError, Global};
 use trace_items::KeptSteps;
 use written_steps::{SeenLits, push_distinct};

@@ -4,7 +4,7 @@ pub use Rattle.std.proofs.lemmas.List.{length-append, map-append}
 pub use Rattle.std.proofs.lemmas.List.Folds.{flat_map-map}
 pub use Rattle.std.specs.List.{AllByRecursion, flat_map}
 unfoldable pub use Rattle.std.specs.List.{IsDistinct}
-pub use Rattle.qbf_core.proofs.PrefixLaws.{AllByRecursion-push}
+pub use Rattle.lists.proofs.PushedItems.{AllByRecursion-push}
 pub use Rattle.qbf_core.specs.Blocks.{Block, IsVariable, blocks_of, is_bound, pairs, variables}
 pub use Rattle.qbf_core.specs.Literal.{Literal}
 pub use Rattle.qbf_core.specs.Qbf.{Qbf}

@@ -7,7 +7,8 @@ ghost use Rattle.qbf_core.specs.WrittenLiterals.{literal_of, IsWritten};
 ghost use Rattle.qbf_core.specs.declared.literal.TheConstants.{LAST_VARIABLE};
 ghost use Rattle.window_numbers.specs.Values.{numbers_of};
 
-use qbf_core::{GrowingLists, LAST_VARIABLE, Lit};
+use lists::GrowingLists;
+use qbf_core::{LAST_VARIABLE, Lit, extend_written};
 use std::alloc::AllocError;
 use window_numbers::Values;
 
@@ -35,6 +36,6 @@ pub fn extend_literals(
     ensures err { OnErr result (lits.new ≡ lits.old) }
 {
     let (from, to) = between;
-    let is_added = lits.extend_written(values.short(from, to), last)?;
+    let is_added = extend_written(lits, values.short(from, to), last)?;
     Ok(is_added)
 }

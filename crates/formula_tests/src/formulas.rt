@@ -5,9 +5,8 @@ ghost use Rattle.std.specs.Prelude.{◌≡◌, ◌<◌, ◌∷◌, [], ◌++◌,
 ghost use Rattle.qbf_core.specs.Blocks.{AreBound, pairs};
 ghost use Rattle.qbf_core.specs.declared.quantifier.Quantifier.TheVariants.{All};
 
-use qbf_core::{
-    Formula, GrowingLists, Lit, LitSet, Prefix, PrefixFault, Quantifier, Var, is_member,
-};
+use lists::GrowingLists;
+use qbf_core::{Formula, Lit, LitSet, Prefix, PrefixFault, Quantifier, Var, is_member};
 use std::alloc::Global;
 use std::process::Abort;
 use std::test::Fail;

@@ -10,5 +10,5 @@ pub use Rattle.std.proofs.lemmas.Bool.{cases_Bool}
 pub use Rattle.qbf_completeness.specs.Setting.{are_set, is_set}
 pub use Rattle.qbf_completeness.specs.Strategies.{literal_of}
 pub use Rattle.qbf_gates.specs.Gates.{Gate, And, Or, Xor, Ite, GateFormula, IsOf, IsWellFormed, StandInOrder, gate_names, inputs_of, names}
-pub use Rattle.qbf_gates.specs.Truth.{IsTrueGates, OutputHolds, any_set, gate_value, with_gates}
+pub use Rattle.qbf_gates.specs.Truth.{IsTrueGates, OutputHolds, gate_value, with_gates}
 pub use Rattle.gate_clauses.specs.Encoding.{clauses_of, encoding, gate_clauses, gate_pairs}

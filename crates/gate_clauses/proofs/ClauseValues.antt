@@ -1,7 +1,8 @@
 -- The clauses of a gate hold exactly if its variable has the value of the gate.
 use Rattle.gate_clauses.proofs.Cited.{◌≡◌, ℕ, Bool, true, false, cond, not, beq, List, [], ◌∷◌, ◌∙◌, inl, inr, refl, sym, ap, map}
 use Rattle.gate_clauses.proofs.Cited.{subst, false≢true, Literal, positive, negative, negated, ◌∈◌, ClauseHolds, MatrixHolds}
-use Rattle.gate_clauses.proofs.Cited.{Gate, And, Or, Xor, Ite, inputs_of, are_set, any_set, gate_value, is_set, clauses_of}
+use Rattle.gate_clauses.proofs.Cited.{Gate, And, Or, Xor, Ite, inputs_of, are_set, gate_value, is_set, clauses_of}
+use Rattle.gate_clauses.proofs.SetTests.{all_is, any_is, any_set}
 use Rattle.qbf_completeness.proofs.Setting.{in_set, set_in}
 
 -- ---- clauses as tests
@@ -166,11 +167,11 @@ gate_holds v (And ls) s own opposed =
     (any_negated ls s opposed)
     ∙ (ap (λ (b : Bool). cond (cond (is_set (positive v) s) true (not (are_set ls s))) b false)
     (each_follows v (is_set (positive v) s) ls s own)
-    ∙ and_table (is_set (positive v) s) (are_set ls s))
+    ∙ (and_table (is_set (positive v) s) (are_set ls s) ∙ ap (beq (is_set (positive v) s)) (sym (all_is ls s))))
 gate_holds v (Or ls) s own opposed =
     ap (λ (b : Bool). cond (cond b true (any_set ls s)) (all_hold (map (λ l. positive v ∷ negated l ∷ []) ls) s) false) own
     ∙ (ap (λ (b : Bool). cond (cond (not (is_set (positive v) s)) true (any_set ls s)) b false) (each_refutes v ls s opposed)
-    ∙ or_table (is_set (positive v) s) (any_set ls s))
+    ∙ (or_table (is_set (positive v) s) (any_set ls s) ∙ ap (beq (is_set (positive v) s)) (sym (any_is ls s))))
 gate_holds v (Xor a b) s own opposed =
     rw (own, opposed a (inl refl), opposed b (inr (inl refl))) (xor_table (is_set (positive v) s) (is_set a s) (is_set b s))
 gate_holds v (Ite a b c) s own opposed =

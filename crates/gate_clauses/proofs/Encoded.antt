@@ -2,6 +2,9 @@
 use Rattle.gate_clauses.proofs.Cited.{rules, ◌≡◌, ℕ, List, [], ◌∷◌, ◌++◌, inl, refl, sym, subst, map, AllByRecursion}
 use Rattle.gate_clauses.proofs.Cited.{Literal, positive, negative, negated, ◌∈◌, Quantifier, Exists, pairs}
 use Rattle.gate_clauses.proofs.Cited.{Gate, And, Or, Xor, Ite, inputs_of, clauses_of}
+use Rattle.qbf_gates.specs.declared.kind.GateKind.{GateKind}
+use Rattle.qbf_gates.specs.declared.kind.GateKind.TheVariants.{Choice, Conjunction, Difference, Disjunction}
+use Rattle.qbf_gates.specs.Kept.{gate_of}
 use Rattle.qbf_core.proofs.Cited.{AreBound, Block, IsBound, variables, IsPrefix, ◌≤◌, length}
 use Rattle.qbf_core.proofs.Bound.{all_in, in_all, bound_in, in_bound}
 use Rattle.qbf_core.proofs.Members.{append_left, append_right}
@@ -68,6 +71,20 @@ bound_gate old new v g clauses put pushed is bound known =
     subst (λ (cs : List (List Literal)). AllByRecursion (AreBound new) cs) (sym is)
     (both_bound new clauses (clauses_of v g) (bound_further old new Exists v clauses pushed bound)
     (gate_bound new v g (newly old new Exists v pushed) (all_still old new Exists v pushed (inputs_of g) known)))
+
+-- the inputs of a gate as they are kept
+pub inputs_kept : (kind : GateKind) (ls : List Literal) → inputs_of (gate_of kind ls) ≡ ls
+inputs_kept Conjunction ls = refl
+inputs_kept Disjunction ls = refl
+inputs_kept Difference [] = refl
+inputs_kept Difference (a ∷ []) = refl
+inputs_kept Difference (a ∷ b ∷ []) = refl
+inputs_kept Difference (a ∷ b ∷ c ∷ ls) = refl
+inputs_kept Choice [] = refl
+inputs_kept Choice (a ∷ []) = refl
+inputs_kept Choice (a ∷ b ∷ []) = refl
+inputs_kept Choice (a ∷ b ∷ c ∷ []) = refl
+inputs_kept Choice (a ∷ b ∷ c ∷ d ∷ ls) = refl
 
 -- ---- the whole formula
 

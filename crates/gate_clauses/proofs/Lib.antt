@@ -1,4 +1,5 @@
 pub mod Cited
+pub mod SetTests
 pub mod Values
 pub mod ClauseValues
 pub mod Gates

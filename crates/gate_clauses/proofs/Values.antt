@@ -1,7 +1,8 @@
 -- The values of literals, by the literals that are set to true.
 use Rattle.gate_clauses.proofs.Cited.{◌≡◌, Bool, true, false, cond, not, List, [], ◌∷◌, ◌⊎◌, ◌∙◌, inl, inr, refl, sym, ap, subst}
 use Rattle.gate_clauses.proofs.Cited.{cases_Bool, Literal, positive, negative, negated, ◌∈◌, ◌⊆◌, IsClean}
-use Rattle.gate_clauses.proofs.Cited.{Gate, And, Or, Xor, Ite, inputs_of, are_set, any_set, gate_value, is_set}
+use Rattle.gate_clauses.proofs.Cited.{Gate, And, Or, Xor, Ite, inputs_of, are_set, gate_value, is_set}
+use Rattle.gate_clauses.proofs.SetTests.{all_is, any_is, any_set}
 use Rattle.qbf_core.proofs.Members.{lit_is}
 use Rattle.qbf_completeness.proofs.Setting.{in_set, set_in}
 
@@ -49,7 +50,7 @@ same_any (l ∷ ls) s u same =
 
 pub same_gate : (g : Gate) (s u : List Literal) → ((l : Literal) → l ∈ inputs_of g → is_set l u ≡ is_set l s)
     → gate_value g u ≡ gate_value g s
-same_gate (And ls) s u same = same_all ls s u same
-same_gate (Or ls) s u same = same_any ls s u same
+same_gate (And ls) s u same = all_is ls u ∙ (same_all ls s u same ∙ sym (all_is ls s))
+same_gate (Or ls) s u same = any_is ls u ∙ (same_any ls s u same ∙ sym (any_is ls s))
 same_gate (Xor a b) s u same = rw (same a (inl refl), same b (inr (inl refl))) refl
 same_gate (Ite a b c) s u same = rw (same a (inl refl), same b (inr (inl refl)), same c (inr (inr (inl refl)))) refl

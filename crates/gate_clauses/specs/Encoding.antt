@@ -1,6 +1,6 @@
 -- The formula in clauses of a formula of gates: each gate has a variable of its name, existential and innermost, and clauses that leave it
 -- the value that its inputs give (Tseitin 1968); and the output is true.
-use Rattle.std.specs.Prelude.{ℕ, List, [], ◌∷◌, ◌++◌, map}
+use Rattle.std.specs.Prelude.{ℕ, List, [], ◌∷◌, ◌++◌, flat_map, map}
 use Rattle.qbf_core.specs.declared.quantifier.Quantifier.{Quantifier}
 use Rattle.qbf_core.specs.declared.quantifier.Quantifier.TheVariants.{Exists}
 use Rattle.qbf_core.specs.Literal.{Literal, positive, negative, negated}
@@ -29,8 +29,7 @@ clauses_of v (Ite a b c) =
 
 -- the clauses of gates, in their order
 abbrev pub gate_clauses : List (ℕ × Gate) → List (List Literal)
-gate_clauses [] = []
-gate_clauses (g ∷ gates) = clauses_of g.0 g.1 ++ gate_clauses gates
+gate_clauses gates = flat_map (λ g. clauses_of g.0 g.1) gates
 
 -- the variables of gates
 abbrev pub gate_pairs : List (ℕ × Gate) → List (Quantifier × ℕ)

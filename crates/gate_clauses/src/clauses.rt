@@ -3,9 +3,12 @@
 ghost use Rattle.std.specs.Prelude.{◌≡◌, [], ◌∷◌, ◌++◌, map, OnOk};
 ghost use Rattle.qbf_core.specs.Literal.{positive, negative, negated};
 ghost use Rattle.qbf_gates.specs.Gates.{And, Or, Xor, Ite};
+ghost use Rattle.qbf_gates.specs.Kept.{gate_of};
 ghost use Rattle.gate_clauses.specs.Encoding.{clauses_of};
 
-use qbf_core::{GrowingLists, Lit, Var};
+use lists::GrowingLists;
+use qbf_core::{Lit, Var};
+use qbf_gates::GateKind;
 use std::alloc::AllocError;
 
 /// A clause of one literal.
@@ -32,7 +35,7 @@ pub(crate) fn put_two(
 }
 
 /// A clause of three literals.
-pub(crate) fn put_three(
+fn put_three(
     clauses: &mut GrowingLists<Lit>,
     one: Lit,
     other: Lit,
@@ -49,11 +52,7 @@ pub(crate) fn put_three(
 }
 
 /// A literal, and others after it, as one clause.
-pub(crate) fn put_wide(
-    clauses: &mut GrowingLists<Lit>,
-    one: Lit,
-    others: &[Lit],
-) -> Result<(), AllocError>
+fn put_wide(clauses: &mut GrowingLists<Lit>, one: Lit, others: &[Lit]) -> Result<(), AllocError>
     ensures { OnOk result (clauses.new.whole ≡ clauses.old.whole ++ (one ∷ others.now) ∷ []) }
 {
     clauses.begin();
@@ -75,7 +74,7 @@ fn extend_negated(clauses: &mut GrowingLists<Lit>, others: &[Lit]) -> Result<(),
 }
 
 /// A literal, and the negations of others after it, as one clause.
-pub(crate) fn put_wide_negated(
+fn put_wide_negated(
     clauses: &mut GrowingLists<Lit>,
     one: Lit,
     others: &[Lit],
@@ -90,11 +89,7 @@ pub(crate) fn put_wide_negated(
 }
 
 /// A clause for each of these literals: a literal, and the one of them.
-pub(crate) fn put_each(
-    clauses: &mut GrowingLists<Lit>,
-    one: Lit,
-    others: &[Lit],
-) -> Result<(), AllocError>
+fn put_each(clauses: &mut GrowingLists<Lit>, one: Lit, others: &[Lit]) -> Result<(), AllocError>
     ensures { OnOk result (clauses.new.whole ≡ clauses.old.whole
         ++ map (λ l. one ∷ l ∷ []) others.now) }
 {
@@ -105,7 +100,7 @@ pub(crate) fn put_each(
 }
 
 /// A clause for each of these literals: a literal, and the negation of the one of them.
-pub(crate) fn put_each_negated(
+fn put_each_negated(
     clauses: &mut GrowingLists<Lit>,
     one: Lit,
     others: &[Lit],
@@ -120,11 +115,7 @@ pub(crate) fn put_each_negated(
 }
 
 /// The clauses of a conjunction.
-pub(crate) fn put_and(
-    clauses: &mut GrowingLists<Lit>,
-    var: Var,
-    inputs: &[Lit],
-) -> Result<(), AllocError>
+fn put_and(clauses: &mut GrowingLists<Lit>, var: Var, inputs: &[Lit]) -> Result<(), AllocError>
     ensures { OnOk result (clauses.new.whole ≡ clauses.old.whole ++ clauses_of var (And inputs.now)) }
 {
     put_wide_negated(clauses, Lit::new(var, false), inputs)?;
@@ -132,11 +123,7 @@ pub(crate) fn put_and(
 }
 
 /// The clauses of a disjunction.
-pub(crate) fn put_or(
-    clauses: &mut GrowingLists<Lit>,
-    var: Var,
-    inputs: &[Lit],
-) -> Result<(), AllocError>
+fn put_or(clauses: &mut GrowingLists<Lit>, var: Var, inputs: &[Lit]) -> Result<(), AllocError>
     ensures { OnOk result (clauses.new.whole ≡ clauses.old.whole ++ clauses_of var (Or inputs.now)) }
 {
     put_wide(clauses, Lit::new(var, true), inputs)?;
@@ -144,12 +131,7 @@ pub(crate) fn put_or(
 }
 
 /// The clauses of an exclusive disjunction.
-pub(crate) fn put_xor(
-    clauses: &mut GrowingLists<Lit>,
-    var: Var,
-    a: Lit,
-    b: Lit,
-) -> Result<(), AllocError>
+fn put_xor(clauses: &mut GrowingLists<Lit>, var: Var, a: Lit, b: Lit) -> Result<(), AllocError>
     ensures { OnOk result (clauses.new.whole ≡ clauses.old.whole ++ clauses_of var (Xor a b)) }
 {
     let on = Lit::new(var, false);
@@ -161,7 +143,7 @@ pub(crate) fn put_xor(
 }
 
 /// The clauses of a choice.
-pub(crate) fn put_ite(
+fn put_ite(
     clauses: &mut GrowingLists<Lit>,
     var: Var,
     a: Lit,
@@ -178,4 +160,28 @@ pub(crate) fn put_ite(
     put_three(clauses, on, a, c.negated())?;
     put_three(clauses, off, b, c)?;
     put_three(clauses, on, b.negated(), c.negated())
+}
+
+/// The clauses of a gate of this name and kind with these inputs.
+pub(crate) fn put_gate_clauses(
+    clauses: &mut GrowingLists<Lit>,
+    var: Var,
+    kind: GateKind,
+    inputs: &[Lit],
+) -> Result<(), AllocError>
+    ensures { OnOk result (clauses.new.whole
+        ≡ clauses.old.whole ++ clauses_of var (gate_of kind inputs.now)) }
+{
+    match kind {
+        GateKind::Conjunction => put_and(clauses, var, inputs),
+        GateKind::Disjunction => put_or(clauses, var, inputs),
+        GateKind::Difference => match inputs {
+            [a, b] => put_xor(clauses, var, *a, *b),
+            _ => put_and(clauses, var, inputs),
+        },
+        GateKind::Choice => match inputs {
+            [a, b, c] => put_ite(clauses, var, *a, *b, *c),
+            _ => put_and(clauses, var, inputs),
+        },
+    }
 }

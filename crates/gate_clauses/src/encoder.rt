@@ -1,17 +1,21 @@
 //! A formula in clauses that is made of a formula of gates, one after the other.
 
-ghost use Rattle.std.specs.Prelude.{◌≡◌, ◌≤◌, ◌<◌, true, false, [], ◌∷◌, ◌++◌, length, OnOk, OnErr, IfOk};
+ghost use Rattle.std.specs.Prelude.{◌≡◌, List, ◌≤◌, ◌<◌, true, false, [], ◌∷◌, ◌++◌, length, nat_eq, OnOk, OnErr, IfOk};
+ghost use Rattle.std.specs.List.{AllByRecursion, IsDistinct};
 ghost use Rattle.std.specs.Result.{IsErrOf};
 ghost use Rattle.qbf_core.specs.Blocks.{AreBound, IsBound, IsPrefix, pairs, variables};
+ghost use Rattle.qbf_core.specs.Literal.{Literal};
 ghost use Rattle.qbf_core.specs.declared.quantifier.Quantifier.TheVariants.{Exists};
-ghost use Rattle.qbf_gates.specs.Gates.{And, Or, Xor, Ite};
+ghost use Rattle.qbf_gates.specs.Gates.{StandInOrder, gate_names};
 ghost use Rattle.gate_clauses.specs.Begun.{greatest};
-ghost use Rattle.gate_clauses.specs.Encoding.{clauses_of};
+ghost use Rattle.gate_clauses.specs.Encoding.{gate_clauses, gate_pairs};
 
-use crate::clauses::{put_and, put_ite, put_one, put_or, put_xor};
+use crate::clauses::{put_gate_clauses, put_one};
 use crate::fault::EncodingFault;
-use qbf_core::{Formula, GrowingLists, LAST_VARIABLE, Lit, Prefix, PrefixFault, Quantifier, Var};
-use std::alloc::Global;
+use lists::GrowingLists;
+use qbf_core::{Formula, LAST_VARIABLE, Lit, Prefix, PrefixFault, Quantifier, Var};
+use qbf_gates::Gates;
+use std::alloc::{AllocError, Global};
 use std::marker::Model;
 
 /// The prefix and the clauses so far. Contracts see both.
@@ -79,6 +83,37 @@ fn bind_gate(prefix: &mut Prefix, var: Var, inputs: &[Lit]) -> Result<(), Encodi
     }
 }
 
+/// Binds the variables of gates in their order.
+fn bind_gates(prefix: &mut Prefix, gates: &Gates) -> Result<(), EncodingFault>
+    ensures bound { OnOk result
+        (pairs prefix.new ≡ pairs prefix.old ++ gate_pairs gates.now.gates) }
+    ensures closed { OnOk result ((cs : List (List Literal)) → AllByRecursion (AreBound prefix.old) cs
+        → AllByRecursion (AreBound prefix.new) (cs ++ gate_clauses gates.now.gates)) }
+    ensures given { IsErrOf result EncodingFault.Given → IsDistinct nat_eq
+        (variables (pairs prefix.old) ++ gate_names gates.now.gates) → ⊥ }
+    ensures unknown { IsErrOf result EncodingFault.Unknown
+        → StandInOrder (variables (pairs prefix.old)) gates.now.gates → ⊥ }
+    ensures short { IsErrOf result EncodingFault.TooLong → ⊥ }
+{
+    for i in 0..gates.len() {
+        let (var, _, inputs) = gates.gate(i);
+        bind_gate(prefix, var, inputs)?;
+    }
+    Ok(())
+}
+
+/// Puts the clauses of gates in their order.
+fn put_clauses(clauses: &mut GrowingLists<Lit>, gates: &Gates) -> Result<(), AllocError>
+    ensures { OnOk result (clauses.new.whole
+        ≡ clauses.old.whole ++ gate_clauses gates.now.gates) }
+{
+    for i in 0..gates.len() {
+        let (var, kind, inputs) = gates.gate(i);
+        put_gate_clauses(clauses, var, kind, inputs)?;
+    }
+    Ok(())
+}
+
 impl Encoder {
     /// No variables yet, and no gates. It takes no memory.
     pub fn new(alloc: Global) -> Encoder
@@ -109,72 +144,23 @@ impl Encoder {
         }
     }
 
-    /// Puts a conjunction.
+    /// Puts gates in their order.
     ///
     /// # Errors
-    /// `Given` if its name is given already, `Unknown` if an input is of no name that is given, and
-    /// `NoMemory` if an allocation fails.
-    pub fn and(mut self, var: Var, inputs: &[Lit]) -> Result<Encoder, EncodingFault>
-        ensures known { IfOk result (λ _. AreBound self.blocks inputs.now) }
-        ensures bound { IfOk result (λ e. pairs e.blocks ≡ pairs self.blocks ++ (Exists, var) ∷ []) }
-        ensures put { IfOk result (λ e. e.clauses ≡ self.clauses ++ clauses_of var (And inputs.now)) }
-        ensures given { IsErrOf result EncodingFault.Given → IsBound self.blocks var }
-        ensures unknown { IsErrOf result EncodingFault.Unknown → AreBound self.blocks inputs.now → ⊥ }
+    /// `Given` if a name is given already, `Unknown` if an input is of no name that is given before
+    /// its gate, and `NoMemory` if an allocation fails.
+    pub fn with_gates(mut self, gates: &Gates) -> Result<Encoder, EncodingFault>
+        ensures bound { IfOk result (λ e. pairs e.blocks ≡ pairs self.blocks ++ gate_pairs gates.now.gates) }
+        ensures put { IfOk result (λ e. e.clauses ≡ self.clauses ++ gate_clauses gates.now.gates) }
+        ensures given { IsErrOf result EncodingFault.Given → IsDistinct nat_eq
+            (variables (pairs self.blocks) ++ gate_names gates.now.gates) → ⊥ }
+        ensures unknown { IsErrOf result EncodingFault.Unknown
+            → StandInOrder (variables (pairs self.blocks)) gates.now.gates → ⊥ }
         ensures short { IsErrOf result EncodingFault.TooLong → ⊥ }
     {
-        bind_gate(&mut self.prefix, var, inputs)?;
-        put_and(&mut self.clauses, var, inputs)?;
-        Ok(self)
-    }
-
-    /// Puts a disjunction.
-    ///
-    /// # Errors
-    /// As of `and`.
-    pub fn or(mut self, var: Var, inputs: &[Lit]) -> Result<Encoder, EncodingFault>
-        ensures known { IfOk result (λ _. AreBound self.blocks inputs.now) }
-        ensures bound { IfOk result (λ e. pairs e.blocks ≡ pairs self.blocks ++ (Exists, var) ∷ []) }
-        ensures put { IfOk result (λ e. e.clauses ≡ self.clauses ++ clauses_of var (Or inputs.now)) }
-        ensures given { IsErrOf result EncodingFault.Given → IsBound self.blocks var }
-        ensures unknown { IsErrOf result EncodingFault.Unknown → AreBound self.blocks inputs.now → ⊥ }
-        ensures short { IsErrOf result EncodingFault.TooLong → ⊥ }
-    {
-        bind_gate(&mut self.prefix, var, inputs)?;
-        put_or(&mut self.clauses, var, inputs)?;
-        Ok(self)
-    }
-
-    /// Puts an exclusive disjunction.
-    ///
-    /// # Errors
-    /// As of `and`.
-    pub fn xor(mut self, var: Var, a: Lit, b: Lit) -> Result<Encoder, EncodingFault>
-        ensures known { IfOk result (λ _. AreBound self.blocks (a ∷ b ∷ [])) }
-        ensures bound { IfOk result (λ e. pairs e.blocks ≡ pairs self.blocks ++ (Exists, var) ∷ []) }
-        ensures put { IfOk result (λ e. e.clauses ≡ self.clauses ++ clauses_of var (Xor a b)) }
-        ensures given { IsErrOf result EncodingFault.Given → IsBound self.blocks var }
-        ensures unknown { IsErrOf result EncodingFault.Unknown → AreBound self.blocks (a ∷ b ∷ []) → ⊥ }
-        ensures short { IsErrOf result EncodingFault.TooLong → ⊥ }
-    {
-        bind_gate(&mut self.prefix, var, &[a, b])?;
-        put_xor(&mut self.clauses, var, a, b)?;
-        Ok(self)
-    }
-
-    /// Puts a choice: the second input if the first is true, else the third.
-    ///
-    /// # Errors
-    /// As of `and`.
-    pub fn ite(mut self, var: Var, a: Lit, b: Lit, c: Lit) -> Result<Encoder, EncodingFault>
-        ensures known { IfOk result (λ _. AreBound self.blocks (a ∷ b ∷ c ∷ [])) }
-        ensures bound { IfOk result (λ e. pairs e.blocks ≡ pairs self.blocks ++ (Exists, var) ∷ []) }
-        ensures put { IfOk result (λ e. e.clauses ≡ self.clauses ++ clauses_of var (Ite a b c)) }
-        ensures given { IsErrOf result EncodingFault.Given → IsBound self.blocks var }
-        ensures unknown { IsErrOf result EncodingFault.Unknown → AreBound self.blocks (a ∷ b ∷ c ∷ []) → ⊥ }
-        ensures short { IsErrOf result EncodingFault.TooLong → ⊥ }
-    {
-        bind_gate(&mut self.prefix, var, &[a, b, c])?;
-        put_ite(&mut self.clauses, var, a, b, c)?;
+        // One after the other, since lists that grow by turns leave more gaps in memory.
+        put_clauses(&mut self.clauses, gates)?;
+        bind_gates(&mut self.prefix, gates)?;
         Ok(self)
     }
 

@@ -24,7 +24,7 @@ use Rattle.trace_check.proofs.Verdicts.{verdict_is_one}
 use Rattle.gate_verify.specs.declared.fault.Unverified.{Unverified}
 use Rattle.gate_verify.specs.declared.fault.Unverified.TheVariants as fault
 use Rattle.gate_verify.specs.Laws.{in_clauses}
-use Rattle.gate_verify.specs.Faults.{IsOutOfMemory, IsQuestionDevice, IsTraceDevice}
+use Rattle.gate_verify.specs.Faults.{HasFailed, IsOutOfMemory, IsQuestionDevice, IsTraceDevice}
 use Rattle.gate_verify.specs.Checked.{IsVerdict}
 use Rattle.gate_verify.specs.Headline.{Headline, IsShown, Spell}
 
@@ -102,6 +102,19 @@ module _ (rules : Rules) (question trace : List ℕ) where
       (subst (λ (s : Result Derivation (TraceFault × ℕ)). IsVerdict rules (Ok shown.q) (Some s) (Err e))
       (trace_read shown.q shown.d shown.spelled) at_q)
 
+  -- an allocation or a device failed
+  failed : (e : Unverified) → IsOutOfMemory {V = Bool} (Err e) ⊎ (IsQuestionDevice {V = Bool} (Err e) ⊎ IsTraceDevice {V = Bool} (Err e))
+      → HasFailed {V = Bool} (Err e)
+  failed (fault.Question g line) (inl memory) = inr memory
+  failed (fault.Question g line) (inr (inl device)) = inl device
+  failed (fault.Question g line) (inr (inr none)) = absurd none
+  failed fault.TooLong (inl none) = absurd none
+  failed fault.TooLong (inr (inl none)) = absurd none
+  failed fault.TooLong (inr (inr none)) = absurd none
+  failed (fault.Proof g) (inl memory) = inl memory
+  failed (fault.Proof g) (inr (inl none)) = absurd none
+  failed (fault.Proof g) (inr (inr device)) = inr device
+
   headline_known : (result : Result Bool Unverified)
       → IsVerdict rules (read_gates question) (Some (read_trace trace)) result
       ⊎ (IsOutOfMemory result ⊎ (IsQuestionDevice result ⊎ IsTraceDevice result))
@@ -115,7 +128,7 @@ module _ (rules : Rules) (question trace : List ℕ) where
     wherever = λ shown few. absurd (refused_not e shown few h);
     truth = tt;
   }
-  headline_known (Err e) (inr aside) = record { only = λ is. absurd (cc is); wherever = λ shown few. inr aside; truth = tt }
+  headline_known (Err e) (inr aside) = record { only = λ is. absurd (cc is); wherever = λ shown few. inr (failed e aside); truth = tt }
 
 pub headline : (rules : Rules) (question trace : Option (List ℕ)) (read : Result Question (QuestionFault × ℕ)) (result : Result Bool Unverified)
     → IfSome question (λ bytes. read ≡ read_gates bytes)

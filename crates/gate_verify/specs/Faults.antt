@@ -1,5 +1,5 @@
 -- Which part of a check a fault is of.
-use Rattle.std.specs.Prelude.{◌≡◌, ℕ, Result, Ok, Err}
+use Rattle.std.specs.Prelude.{◌≡◌, ◌⊎◌, ℕ, Result, Ok, Err}
 use Rattle.qcir.specs.declared.fault.QuestionFault.TheVariants.{Q1, Q11}
 use Rattle.qrp_check.specs.declared.verdict.Fault.{Fault}
 use Rattle.trace_check.specs.declared.verified.Verified.{Verified}
@@ -10,6 +10,12 @@ use Rattle.gate_verify.specs.declared.fault.Unverified.TheVariants as fault
 -- the result of a check that found this fault
 abbrev pub refused : Fault → Result Verified Fault
 refused e = Err e
+
+-- an allocation or a device failed
+abbrev pub HasFailed : {V : Type 0} → Result V Unverified → Type 0
+HasFailed (Err (fault.Question e line)) = (e ≡ Q1) ⊎ (e ≡ Q11)
+HasFailed (Err (fault.Proof e)) = check.IsOutOfMemory (Err e) ⊎ check.IsTraceDevice (Err e)
+HasFailed result = ⊥
 
 -- the result is that an allocation failed
 abbrev pub IsOutOfMemory : {V : Type 0} → Result V Unverified → Type 0

@@ -14,7 +14,7 @@ use Rattle.trace_check.specs.Proof.{IsProof, is_sat}
 use Rattle.qcir.specs.Reading.{Question}
 use Rattle.qcir.specs.Grammar.{IsQuestion}
 use Rattle.gate_verify.specs.declared.fault.Unverified.{Unverified}
-use Rattle.gate_verify.specs.Faults.{IsOutOfMemory, IsQuestionDevice, IsTraceDevice}
+use Rattle.gate_verify.specs.Faults.{HasFailed}
 use Rattle.gate_verify.specs.Laws.{in_clauses}
 
 -- the bytes spell q, a formula of gates with its names, and the trace d
@@ -34,6 +34,6 @@ pub record IsShown (rules : Rules) (question trace : List ℕ) : Type 0 where
 pub record Headline (rules : Rules) (question trace : List ℕ) (result : Result Bool Unverified) : Type 0 where
   pub only : IsOk result → IsShown rules question trace
   pub wherever : (shown : IsShown rules question trace) → length (in_clauses shown.q.formula).clauses ≤ 2147483647
-      → IsOk result ⊎ (IsOutOfMemory result ⊎ (IsQuestionDevice result ⊎ IsTraceDevice result))
+      → IsOk result ⊎ HasFailed result
   pub truth : IfOk result (λ t. (q : Question) (d : Derivation) → Spell question trace q d
       → (t ≡ is_sat d.result) × (IsTrue t ↔ IsTrueGates q.formula))

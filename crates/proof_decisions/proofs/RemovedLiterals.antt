@@ -8,7 +8,7 @@ use Rattle.std.proofs.lemmas.List.{length_push}
 use Rattle.qbf_core.proofs.Members.{in_push, push_in}
 use Rattle.qrp_rules.specs.declared.blocks.Reducible.{Reducible}
 use Rattle.std.specs.Prelude.{⊤, Err, IsOk, Ok, OnOk, Result}
-use Rattle.qbf_core.specs.Lists.{Growing}
+use Rattle.lists.specs.Lists.{Growing}
 use Rattle.proof_decisions.specs.Removing.{HasJust, IsLeft, MayLeave, Notes, Removes}
 
 -- what holds of a result that is not an error

@@ -12,7 +12,8 @@ ghost use Rattle.proof_decisions.specs.Removing.{AddsDecision, AddsUnlessIdle};
 
 use crate::origins::{OriginBuffers, Search, origin_of};
 use crate::removing::{keep, remove_all, set_all};
-use qbf_core::{Formula, GrowingLists, LitBuffer};
+use lists::GrowingLists;
+use qbf_core::{Formula, LitBuffer};
 use qbf_strategy::Decisions;
 use qrp_rules::{Clauses, Cubes, Side, reducible_in};
 use std::alloc::{AllocError, Global};

@@ -8,7 +8,8 @@ ghost use Rattle.qrp_rules.specs.Walks.{MayOmit, TakesOut};
 ghost use Rattle.proof_decisions.specs.Removing.{HasJust, IsLeft, MayLeave, Removes, RemovesAll};
 
 use crate::origins::Origin;
-use qbf_core::{GrowingLists, Lit, Prefix};
+use lists::GrowingLists;
+use qbf_core::{Lit, Prefix};
 use qrp_rules::{Reducible, Side, may_omit, reducible_in};
 use std::alloc::AllocError;
 use written_steps::SeenLits;

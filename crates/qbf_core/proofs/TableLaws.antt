@@ -6,7 +6,7 @@ use Rattle.qbf_core.proofs.Cited.{IsTable, IsBeyond, IsIndexOf, IsDistinct, Fits
 use Rattle.std.proofs.Common.{if◌then◌else◌, slice_set}
 use Rattle.std.specs.Prelude.{IfSome}
 use Rattle.std.proofs.lemmas.Bool.{ne_eqb}
-use Rattle.qbf_core.proofs.PushedItems.{pushed_cases}
+use Rattle.lists.proofs.PushedItems.{pushed_cases}
 
 -- a list after all of it was lent as a slice
 pub written_back : {X : Type 0} (n : ℕ) (new old : List X) → n ≡ length old → length new ≡ length old

@@ -1,5 +1,5 @@
--- Literals in bytes: those of a list take one byte each, two or four, as the first byte says.
-use Rattle.std.specs.Prelude.{ℕ, zero, suc, List, [], ◌∷◌, map}
+-- Literals in bytes: those of a list take one byte each, two or four, as the first byte says; or the bytes are the place of a long list.
+use Rattle.std.specs.Prelude.{◌≡◌, ℕ, zero, suc, ◌<◌, Bool, true, false, List, [], ◌∷◌, get_or, map}
 use Rattle.std.specs.List.{AllByRecursion, flat_map}
 use Rattle.std.specs.Int.{w8, w16, w32, Width, from_le_bytes, to_le_bytes, cast_signed, cast_unsigned}
 use Rattle.qbf_core.specs.Blocks.{IsVariable}
@@ -36,3 +36,24 @@ packed w lits = flat_map (λ l. to_le_bytes w (cast_unsigned w (signed l))) lits
 -- each is a literal of a variable
 abbrev pub AreLiterals : List Literal → Type 0
 AreLiterals lits = AllByRecursion (λ l. IsVariable l.var) lits
+
+-- whether the bytes are the place of a long list: then the first is 0
+abbrev pub is_place : List ℕ → Bool
+is_place (zero ∷ bytes) = true
+is_place bytes = false
+
+-- the bytes are these literals, packed
+abbrev pub Packs : List Literal → List ℕ → Type 0
+Packs lits bytes = (is_place bytes ≡ false) × (unpacked bytes ≡ lits)
+
+-- the literals of a list, which are packed, or those of the long list at a place
+abbrev pub kept_in : List (List Literal) → List ℕ → List Literal
+kept_in long (zero ∷ a ∷ b ∷ c ∷ d ∷ []) = get_or long (from_le_bytes w32 (a ∷ b ∷ c ∷ d ∷ [])) []
+kept_in long (zero ∷ bytes) = []
+kept_in long bytes = unpacked bytes
+
+-- there are so many long lists that one stands at the place; or the bytes are literals of variables
+abbrev pub IsKept : ℕ → List ℕ → Type 0
+IsKept count (zero ∷ a ∷ b ∷ c ∷ d ∷ []) = from_le_bytes w32 (a ∷ b ∷ c ∷ d ∷ []) < count
+IsKept count (zero ∷ bytes) = Unit {0}
+IsKept count bytes = AreLiterals (unpacked bytes)

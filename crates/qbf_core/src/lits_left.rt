@@ -5,7 +5,7 @@ ghost use Rattle.qbf_core.specs.Packed.{fours, ones, twos, unpacked, AreLiterals
 
 use crate::literal::Lit;
 use crate::packed_lists::{of_four, of_one, of_two};
-use crate::ranges::see_all;
+use lists::see_all;
 use std::marker::Model;
 
 /// Where literals lie.

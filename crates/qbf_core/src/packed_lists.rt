@@ -1,16 +1,17 @@
-//! Lists of literals in bytes: those of a list take one byte each, two or four.
+//! Lists of literals in bytes: those of a list take one byte each, two or four. Long lists are kept
+//! as they are.
 
-ghost use Rattle.std.specs.Prelude.{◌≡◌, ◌≤◌, ◌<◌, [], ◌∷◌, ◌++◌, length, IfOk, IfSome, OnOk, OnErr, take, ◌-◌};
-ghost use Rattle.std.specs.Prelude.{slice_get, IsTrue, Some};
+ghost use Rattle.std.specs.Prelude.{◌≡◌, ◌≤◌, ◌<◌, [], ◌∷◌, ◌++◌, length, IfOk, IfNone, IfSome, OnOk, OnErr, take};
+ghost use Rattle.std.specs.Prelude.{◌-◌, false, slice_get, IsTrue, Some};
 ghost use Rattle.std.specs.List.{AllByRecursion};
-ghost use Rattle.std.specs.Int.{w8, w16, w32};
+ghost use Rattle.std.specs.Int.{w8, w16, w32, to_le_bytes};
 ghost use Rattle.qbf_core.specs.Blocks.{IsVariable};
-ghost use Rattle.qbf_core.specs.Packed.{fours, literal_in, ones, packed, twos, unpacked, AreLiterals};
+ghost use Rattle.qbf_core.specs.Packed.{fours, is_place, kept_in, literal_in, ones, packed, twos};
+ghost use Rattle.qbf_core.specs.Packed.{unpacked, AreLiterals, Packs};
 
-use crate::lists::GrowingLists;
 use crate::literal::Lit;
 use crate::lits_left::LitsLeft;
-use crate::ranges::see_all;
+use lists::{GrowingLists, see_all};
 use std::alloc::{AllocError, Global};
 use std::marker::Model;
 
@@ -275,7 +276,7 @@ fn surely_in_two(largest: u32) -> bool
 fn put_packed(bytes: &mut GrowingLists<u8>, lits: &[Lit]) -> Result<(), AllocError>
     requires empty { bytes.old.unfinished ≡ [] }
     requires literals { AreLiterals lits.now }
-    ensures put { OnOk result (unpacked bytes.new.unfinished ≡ lits.now) }
+    ensures put { OnOk result (Packs lits.now bytes.new.unfinished) }
     ensures kept { bytes.new.whole ≡ bytes.old.whole }
 {
     if lits.is_empty() {
@@ -294,24 +295,88 @@ fn put_packed(bytes: &mut GrowingLists<u8>, lits: &[Lit]) -> Result<(), AllocErr
     }
 }
 
-/// Lists of literals in one list of bytes. Contracts see the lists.
+/// A list with more literals is lent from where it is kept. To put it into a buffer would take time
+/// at each step that has it as an antecedent, however short this step is.
+const LONG: usize = 1024;
+
+/// The place that the bytes of a list are, if they are one.
+#[inline(always)]
+fn place_in(bytes: &[u8]) -> Option<&[u8]>
+    ensures some { IfSome result (λ place. bytes.now ≡ 0 ∷ place.now) }
+    ensures none { IfNone result (is_place bytes.now ≡ false) }
+{
+    match bytes {
+        [0, place @ ..] => Some(place),
+        _ => None,
+    }
+}
+
+/// The long list at a place.
+#[cold]
+fn long_at<'a>(long: &'a GrowingLists<Lit>, place: &[u8]) -> &'a [Lit]
+    ensures { result.now ≡ kept_in long.now.whole (0 ∷ place.now) }
+{
+    let [a, b, c, d] = place else {
+        return &[];
+    };
+    let place = u32::from_le_bytes([*a, *b, *c, *d]) as usize;
+    if place < long.whole_len() {
+        long.get(place)
+    } else {
+        &[]
+    }
+}
+
+/// Adds a list as it is.
+///
+/// # Errors
+/// Out of memory. The whole lists are unchanged then.
+fn put_long(long: &mut GrowingLists<Lit>, lits: &[Lit]) -> Result<(), AllocError>
+    ensures put { OnOk result (long.new.whole ≡ long.old.whole ++ lits.now ∷ []) }
+    ensures err { OnErr result (long.new.whole ≡ long.old.whole) }
+{
+    long.begin();
+    long.extend(lits)?;
+    long.close()
+}
+
+/// Adds the bytes of a place.
+///
+/// # Errors
+/// Out of memory. The whole lists are unchanged then.
+fn add_place(bytes: &mut GrowingLists<u8>, place: u32) -> Result<(), AllocError>
+    ensures put { OnOk result
+        (bytes.new.whole ≡ bytes.old.whole ++ (0 ∷ to_le_bytes w32 place) ∷ []) }
+    ensures err { OnErr result (bytes.new.whole ≡ bytes.old.whole) }
+{
+    bytes.begin();
+    bytes.push(0)?;
+    bytes.extend(&place.to_le_bytes())?;
+    bytes.close()
+}
+
+/// Lists of literals in one list of bytes, and those of more than 1,024 literals as they are.
+/// Contracts see the lists.
 #[derive(Drop)]
 pub struct PackedLists {
-    /// The bytes of each list. The first says how many each of its literals takes.
+    /// The bytes of each list. The first says how many each of its literals takes; if it is 0, the
+    /// others are the place of a long list.
     bytes: GrowingLists<u8>,
+    /// Lists that are lent.
+    long: GrowingLists<Lit>,
 }
 
 impl Model for PackedLists {
-    ghost use Rattle.std.specs.Prelude.{List, ◌≡◌, map, []};
+    ghost use Rattle.std.specs.Prelude.{List, ◌≡◌, length, map};
     ghost use Rattle.std.specs.List.{AllByRecursion};
     ghost use Rattle.qbf_core.specs.Literal.{Literal};
-    ghost use Rattle.qbf_core.specs.Packed.{unpacked, AreLiterals};
+    ghost use Rattle.qbf_core.specs.Packed.{kept_in, IsKept};
 
     ghost Value = { List (List Literal) };
 
-    ghost view = { λ p. map unpacked p.bytes.whole };
+    ghost view = { λ p. map (kept_in p.long.whole) p.bytes.whole };
 
-    ghost invariant = { λ p. AllByRecursion (λ bytes. AreLiterals (unpacked bytes)) p.bytes.whole };
+    ghost invariant = { λ p. AllByRecursion (IsKept (length p.long.whole)) p.bytes.whole };
 }
 
 impl PackedLists {
@@ -321,32 +386,79 @@ impl PackedLists {
     {
         PackedLists {
             bytes: GrowingLists::new(alloc),
+            long: GrowingLists::new(alloc),
         }
     }
 
-    /// The list at place `i`, counted from 0, which is put into the buffer: `i` is below the number
-    /// of lists.
+    /// The list at place `i`, counted from 0, which is put into the buffer if it cannot be lent: `i`
+    /// is below the number of lists.
     ///
     /// # Errors
     /// Out of memory.
     #[inline(always)]
-    #[tactic(auto, using(crate::proofs::Packing::list_at, crate::proofs::Packing::literals_at))]
-    pub fn unpack<'a>(&self, i: usize, buffer: &'a mut LitBuffer) -> Result<&'a [Lit], AllocError>
+    #[tactic(auto, using(crate::proofs::Packing::list_at, crate::proofs::Packing::kept_at, crate::proofs::Packing::literals_at, crate::proofs::Packing::packed_at))]
+    pub fn unpack<'a>(
+        &'a self,
+        i: usize,
+        buffer: &'a mut LitBuffer,
+    ) -> Result<&'a [Lit], AllocError>
         requires { i < length self.now }
         ensures { IfOk result (λ lits. slice_get self.now i ≡ Some lits.now) }
     {
-        buffer.hold(self.bytes.get(i))
+        let bytes = self.bytes.get(i);
+        match place_in(bytes) {
+            Some(place) => Ok(long_at(&self.long, place)),
+            None => buffer.hold(bytes),
+        }
     }
 
     /// The literals of the list at place `i`, to be read one by one, which takes no memory: `i` is
     /// below the number of lists.
     #[inline(always)]
-    #[tactic(auto, using(crate::proofs::Packing::list_at, crate::proofs::Packing::literals_at))]
+    #[tactic(auto, using(crate::proofs::Packing::list_at, crate::proofs::Packing::kept_at, crate::proofs::Packing::literals_at, crate::proofs::Packing::packed_at))]
     pub fn left(&self, i: usize) -> LitsLeft<'_>
         requires { i < length self.now }
         ensures { slice_get self.now i ≡ Some result }
     {
-        LitsLeft::of_bytes(self.bytes.get(i))
+        let kept = self.bytes.get(i);
+        match place_in(kept) {
+            Some(place) => LitsLeft::of_lits(long_at(&self.long, place)),
+            None => LitsLeft::of_bytes(kept),
+        }
+    }
+
+    /// Adds a list, packed.
+    ///
+    /// # Errors
+    /// Out of memory. Nothing is changed then.
+    #[inline(always)]
+    #[tactic(auto, using(crate::proofs::Packing::all_kept, crate::proofs::Packing::packed_more))]
+    fn add_packed(&mut self, lits: &[Lit]) -> Result<(), AllocError>
+        ensures added { OnOk result (self.new ≡ self.old ++ lits.now ∷ []) }
+        ensures err { OnErr result (self.new ≡ self.old) }
+    {
+        see_all(lits);
+        self.bytes.begin();
+        put_packed(&mut self.bytes, lits)?;
+        self.bytes.close()
+    }
+
+    /// Adds a list that is to be lent. If there are 4294967296 of these, it is packed.
+    ///
+    /// # Errors
+    /// Out of memory. Nothing is changed then.
+    #[cold]
+    #[inline(never)]
+    #[tactic(auto, using(crate::proofs::Packing::all_more, crate::proofs::Packing::place_kept))]
+    fn add_long(&mut self, lits: &[Lit]) -> Result<(), AllocError>
+        ensures added { OnOk result (self.new ≡ self.old ++ lits.now ∷ []) }
+        ensures err { OnErr result (self.new ≡ self.old) }
+    {
+        let Ok(place) = u32::try_from(self.long.whole_len()) else {
+            return self.add_packed(lits);
+        };
+        put_long(&mut self.long, lits)?;
+        add_place(&mut self.bytes, place)
     }
 
     /// Adds a list.
@@ -358,14 +470,15 @@ impl PackedLists {
         ensures added { OnOk result (self.new ≡ self.old ++ lits.now ∷ []) }
         ensures err { OnErr result (self.new ≡ self.old) }
     {
-        see_all(lits);
-        self.bytes.begin();
-        put_packed(&mut self.bytes, lits)?;
-        self.bytes.close()
+        if lits.len() > LONG {
+            self.add_long(lits)
+        } else {
+            self.add_packed(lits)
+        }
     }
 
     /// Takes the last list away, if there is one.
-    #[tactic(auto, using(crate::proofs::Packing::last_taken, crate::proofs::Packing::all_first))]
+    #[tactic(auto, using(crate::proofs::Packing::all_first))]
     pub fn pop(&mut self)
         ensures { self.new ≡ take (length self.old - 1) self.old }
     {

@@ -1,21 +1,9 @@
-//! The ranges of the items of a slice.
+//! The ranges of variables and of literals.
 
-ghost use Rattle.std.specs.Prelude.{◌<◌, ◌^◌};
-ghost use Rattle.std.specs.List.{AllByRecursion};
 ghost use Rattle.qbf_core.specs.Blocks.{IsVariable};
 
 use crate::literal::{Lit, Var};
-
-/// Values that keep within a range. A workaround: it tells the prover that each item of a slice is
-/// in range, which it does not know before the item is read. It does nothing when it runs.
-pub trait InRange: Copy {
-    /// Its range.
-    ghost range: { Self → Type 0 };
-
-    /// Does nothing, and says the range.
-    fn see(self)
-        ensures { range self };
-}
+use lists::InRange;
 
 impl InRange for Var {
     ghost range = { IsVariable };
@@ -29,21 +17,4 @@ impl InRange for Lit {
 
     #[inline(always)]
     fn see(self) {}
-}
-
-impl InRange for u64 {
-    ghost range = { λ n. n < 2 ^ 64 };
-
-    #[inline(always)]
-    fn see(self) {}
-}
-
-/// Does nothing, and says the ranges of all items.
-#[inline(always)]
-pub fn see_all<T: InRange>(items: &[T])
-    ensures { AllByRecursion T.range items.now }
-{
-    for item in items {
-        (*item).see();
-    }
 }

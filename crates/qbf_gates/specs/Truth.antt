@@ -1,23 +1,19 @@
 -- The truth of a formula of gates: both values of each variable are tried, from outermost to innermost, and then the gates are evaluated in
 -- their order.
-use Rattle.std.specs.Prelude.{ℕ, Bool, true, false, not, if◌then◌else◌, List, [], ◌∷◌}
+use Rattle.std.specs.Prelude.{ℕ, Bool, not, if◌then◌else◌, List, [], ◌∷◌}
+use Rattle.std.specs.List.{list_all, list_any}
 use Rattle.qbf_core.specs.Literal.{Literal}
 use Rattle.qbf_core.specs.Members.{◌∈◌}
 use Rattle.qbf_core.specs.Blocks.{pairs}
 use Rattle.qbf_core.specs.Truth.{IsTrueFrom}
-use Rattle.qbf_completeness.specs.Setting.{are_set, is_set}
+use Rattle.qbf_completeness.specs.Setting.{is_set}
 use Rattle.qbf_completeness.specs.Strategies.{literal_of}
 use Rattle.qbf_gates.specs.Gates.{Gate, And, Or, Xor, Ite, GateFormula}
 
--- whether some of these literals are set to true
-abbrev pub any_set : List Literal → List Literal → Bool
-any_set [] s = false
-any_set (l ∷ ls) s = if is_set l s then true else any_set ls s
-
 -- the value of a gate, by the literals that are set to true
 abbrev pub gate_value : Gate → List Literal → Bool
-gate_value (And ls) s = are_set ls s
-gate_value (Or ls) s = any_set ls s
+gate_value (And ls) s = list_all (λ l. is_set l s) ls
+gate_value (Or ls) s = list_any (λ l. is_set l s) ls
 gate_value (Xor a b) s = if is_set a s then not (is_set b s) else is_set b s
 gate_value (Ite a b c) s = if is_set a s then is_set b s else is_set c s
 

@@ -7,7 +7,8 @@ ghost use Rattle.qbf_core.specs.Blocks.{pairs, IsBound};
 ghost use Rattle.qbf_gates.specs.Kept.{fits, gate_of};
 
 use crate::kind::GateKind;
-use qbf_core::{GrowingLists, Lit, Prefix, PrefixFault, Quantifier, Var};
+use lists::GrowingLists;
+use qbf_core::{Lit, Prefix, PrefixFault, Quantifier, Var};
 use std::alloc::{AllocError, Global};
 use std::marker::Model;
 

@@ -1,6 +1,7 @@
 //! Decisions as they lie in memory.
 
-use qbf_core::{GrowingLists, Lit};
+use lists::GrowingLists;
+use qbf_core::Lit;
 
 /// Decisions, in their order, as the literals of a proof's steps: those that a step keeps when all
 /// that is reducible is taken out, and those that its antecedents have beyond these.

@@ -3,10 +3,19 @@ pub mod LineStarts
 pub mod MoreParts
 pub mod TextLines
 pub mod Numbers
+pub mod Ranges
 pub mod Sound
-pub mod Spelled
+pub mod Statements
+pub mod ReadStatements
 pub mod WrittenParts
 pub mod WrittenTokens
-pub mod WrittenStatements
+pub mod WrittenLines
+pub mod SaidLines
+pub mod GivenNames
+pub mod NamesByNumbers
+pub mod StatedParts
+pub mod SpelledParts
+pub mod Spelled
 pub mod Counted
 pub mod Devices
+mod WorkedTexts

@@ -3,14 +3,18 @@ use Rattle.std.proofs.Common.{arith, ◌≡◌, ℕ, zero, suc, ◌<◌, ◌≤�
 use Rattle.std.proofs.Common.{◌⊎◌, inl, inr, eqb}
 use Rattle.std.specs.List.{AllByRecursion, IsDistinct, list_any}
 use Rattle.qbf_core.proofs.Cited.{eqb_tells}
-use Rattle.qbf_core.proofs.DistinctNumbers.{push_distinct}
+use Rattle.lists.proofs.DistinctNumbers.{push_distinct}
 use Rattle.qbf_core.specs.Literal.{Literal}
 use Rattle.qbf_core.specs.Members.{◌∈◌}
 use Rattle.qbf_gates.specs.declared.kind.GateKind.{GateKind}
 use Rattle.qbf_gates.specs.declared.kind.GateKind.TheVariants.{Choice, Conjunction, Difference, Disjunction}
 use Rattle.qbf_gates.specs.Gates.{Gate, IsOf, StandInOrder, gate_names, inputs_of}
 use Rattle.qbf_gates.specs.Kept.{gate_of}
-use Rattle.qcir.specs.Laws.{up_to}
+
+-- the numbers from 1 to n
+abbrev pub up_to : ℕ → List ℕ
+up_to zero = []
+up_to (suc n) = up_to n ++ suc n ∷ []
 
 -- a number in a range
 abbrev pub IsUpTo : ℕ → ℕ → Type 0

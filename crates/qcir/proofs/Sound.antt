@@ -13,13 +13,13 @@ use Rattle.qbf_core.specs.Literal.{Literal}
 use Rattle.qbf_core.specs.Members.{◌∈◌}
 use Rattle.qbf_core.specs.Blocks.{IsVariable, blocks_of, pairs, variables}
 use Rattle.qbf_core.proofs.BlockLaws.{Alternates-blocks_of, pairs-blocks_of}
-use Rattle.qbf_core.proofs.DistinctNumbers.{front_distinct}
+use Rattle.lists.proofs.DistinctNumbers.{front_distinct}
 use Rattle.qbf_gates.specs.declared.kind.GateKind.{GateKind}
 use Rattle.qbf_gates.specs.Gates.{Gate, IsWellFormed, StandInOrder, gate_names, names}
 use Rattle.qbf_gates.specs.Kept.{fits, gate_of}
 use Rattle.qcir_tokens.specs.Tokens.{Sign, Token, Word, tokens}
 use Rattle.qcir.specs.declared.fault.QuestionFault.{QuestionFault}
-use Rattle.qcir.specs.Laws.{ReadsWellFormed, up_to}
+use Rattle.qcir.specs.Laws.{ReadsWellFormed}
 use Rattle.qcir.specs.Names.{Name, literal_at, literal_named, with_name}
 use Rattle.qcir.specs.Reading.{AtPrefix, PartsSoFar, Question, State, InGates, InPrefix, and_literal, bound, gate, gate_line, gates_row, gates_state}
 use Rattle.qcir.specs.Reading.{inputs, is_header, kind_of, literals, members, on_line, output_row, prefix_line, prefix_row, read_lines}
@@ -29,7 +29,8 @@ use Rattle.qcir.specs.declared.keyword.Keyword.{Keyword}
 use Rattle.qcir.specs.declared.keyword.Keyword.TheVariants as words
 use Rattle.qbf_tokens.specs.Tokens.{is_line_end}
 use Rattle.qcir.proofs.MoreParts.{one_longer}
-use Rattle.qcir.proofs.Numbers.{AreUpTo, IsUpTo, all_distinct, all_within, among, either, inputs_up_to, names_more, one_gate_more, one_of}
+use Rattle.qcir.proofs.Numbers.{AreUpTo, IsUpTo, all_distinct, all_within, among, either, inputs_up_to, names_more, one_gate_more, one_of, up_to}
+use Rattle.qcir.proofs.Ranges.{up_to_is}
 
 -- ---- literals
 
@@ -237,11 +238,11 @@ record IsSoundQuestion (q : Question) : Type 0 where
 variables_within : (n : ℕ) → n ≤ 2147483647 → AllByRecursion IsVariable (up_to n)
 variables_within n few = all_within n 2147483647 few
 
-front_of : (P : ℕ → Type 0) (vs us : List ℕ) → AllByRecursion P (vs ++ us) → AllByRecursion P vs
+pub front_of : (P : ℕ → Type 0) (vs us : List ℕ) → AllByRecursion P (vs ++ us) → AllByRecursion P vs
 front_of P [] us all = tt
 front_of P (v ∷ vs) us all = (all.0, front_of P vs us all.1)
 
-rest_of : (P : ℕ → Type 0) (vs us : List ℕ) → AllByRecursion P (vs ++ us) → AllByRecursion P us
+pub rest_of : (P : ℕ → Type 0) (vs us : List ℕ) → AllByRecursion P (vs ++ us) → AllByRecursion P us
 rest_of P [] us all = all
 rest_of P (v ∷ vs) us all = rest_of P vs us all.1
 
@@ -283,7 +284,7 @@ end_sound (InPrefix b) q sound is = absurd cc
 end_sound (InGates b negative w) q sound is =
     result_of b (literal_named b.names negative w) q (literal_up_to b.names negative w) sound is
 
-off_line : {A : Type 0} (n : ℕ) (r : Result A QuestionFault) (a : A) → on_line n r ≡ Ok a → r ≡ Ok a
+pub off_line : {A : Type 0} (n : ℕ) (r : Result A QuestionFault) (a : A) → on_line n r ≡ Ok a → r ≡ Ok a
 off_line n (Err f) a is = absurd cc
 off_line n (Ok b) a is = cc
 
@@ -310,4 +311,5 @@ whole_sound (line ∷ lines) q is =
     ]
 
 pub reads_well_formed : ReadsWellFormed
-reads_well_formed bytes q is = let sound = whole_sound (slice_split is_line_end bytes) q is in (sound.formed, sound.numbered)
+reads_well_formed bytes q is =
+    let sound = whole_sound (slice_split is_line_end bytes) q is in (sound.formed, sound.numbered ∙ up_to_is (length q.names))

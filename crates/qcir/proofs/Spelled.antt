@@ -1,327 +1,267 @@
 -- What is read is what the grammar says.
-use Rattle.std.proofs.Common.{◌≡◌, ℕ, ◌+◌, Bool, true, false, List, [], ◌∷◌, ◌⊎◌, inl, inr, Ok, Err, Result, refl, sym, ap, subst, ◌∙◌}
-use Rattle.std.specs.List.{slice_split}
+use Rattle.std.proofs.Common.{arith, ◌≡◌, ◌≢◌, ℕ, ◌+◌, ◌<◌, ◌≤◌, true, false, List, [], ◌∷◌, ◌++◌, length, map, filter, refl, sym, ap, subst, ◌∙◌, inl, Ok}
+use Rattle.std.proofs.Common.{inr}
+use Rattle.std.specs.Prelude.{codes}
+use Rattle.std.specs.List.{AllByRecursion, flat_map, join_by, onto_first, range_with_len, slice_split}
 use Rattle.std.proofs.lemmas.Bool.{cases_Bool}
+use Rattle.std.proofs.lemmas.List.{map-append}
+use Rattle.std.proofs.lemmas.List.Folds.{flat_map-map}
+use Rattle.std.proofs.lemmas.List.Splits.{slice_split-cons_no, slice_split-cons_yes}
 use Rattle.qbf_core.specs.declared.quantifier.Quantifier.{Quantifier}
-use Rattle.qbf_core.specs.declared.quantifier.Quantifier.TheVariants.{All, Exists}
 use Rattle.qbf_core.specs.Literal.{Literal}
-use Rattle.qbf_gates.specs.declared.kind.GateKind.{GateKind}
+use Rattle.qbf_core.specs.Members.{◌∈◌}
+use Rattle.qbf_core.specs.Blocks.{Alternates, Block, blocks_of, pairs, variables}
+use Rattle.qbf_core.proofs.BlockLaws.{Alternates-blocks_of, blocks_of-pairs, pairs-blocks_of}
+use Rattle.qbf_gates.specs.Gates.{Gate, And, Or, Xor, Ite, IsWellFormed, gate_names, inputs_of, names}
+use Rattle.qbf_tokens.proofs.CanonicalTokens.{all_appended}
 use Rattle.qbf_tokens.specs.Tokens.{is_line_end}
-use Rattle.qcir_tokens.specs.declared.mark.Mark.TheVariants.{Close, Comma, Equals, Hash, Minus, Open}
-use Rattle.qcir_tokens.specs.Tokens.{Token, Word, Sign, tokens}
-use Rattle.qcir.specs.declared.fault.QuestionFault.{QuestionFault}
-use Rattle.qcir.specs.declared.keyword.Keyword.{Keyword}
-use Rattle.qcir.specs.declared.keyword.Keyword.TheVariants as words
-use Rattle.qcir.specs.Words.{keyword_of}
-use Rattle.qcir.specs.Names.{Name, literal_named, with_name}
-use Rattle.qcir.specs.Lines.{SaysNothing, signed}
-use Rattle.qcir.specs.Reading.{AtPrefix, InGates, InPrefix, PartsSoFar, Question, State, and_literal, bound, gate, gate_line, gates_row, gates_state}
-use Rattle.qcir.specs.Reading.{inputs, is_header, kind_of, literals, members, on_line, output_row, prefix_line, prefix_row, read_gates, read_lines}
-use Rattle.qcir.specs.Reading.{read_whole, result_at, row, set_row}
-use Rattle.qcir.specs.Grammar.{GateOf, IsQuestion, LeadAll, Leads, OutputOf, Say, Says, SetOf, Statement, all_named, bind_all}
-use Rattle.qcir.specs.Grammar.{literals_listed, literals_tail, names_tail, word_of}
-use Rattle.qcir.specs.Laws.{ReadsQuestions}
+use Rattle.qcir_tokens.specs.Tokens.{is_word_byte, runs}
+use Rattle.qcir_tokens.proofs.Runs.{IsWord}
+use Rattle.qcir.specs.Grammar.{IsHeader, IsQuestion, says_something}
+use Rattle.qcir.specs.Laws.{ReadsBack, ReadsQuestions}
+use Rattle.qcir.specs.Names.{Name, Question}
+use Rattle.qcir.specs.Reading.{read_gates}
+use Rattle.qcir.specs.Texts.{gate_line, gate_word, lines_of, name_of, quantifier_text, set_line, text}
+use Rattle.qcir.proofs.GivenNames.{names_given}
+use Rattle.qcir.proofs.NamesByNumbers.{name_is}
+use Rattle.qcir.proofs.Numbers.{IsUpTo}
+use Rattle.qcir.proofs.Ranges.{in_range, of_range, order_below, parts_of_range, range_within}
+use Rattle.qcir.proofs.ReadStatements.{read_is_stated, stated_is_read}
+use Rattle.qcir.proofs.SaidLines.{all_said, first_and_rest, header_is, is_header_of, lines_said, said_lines}
+use Rattle.qcir.proofs.Sound.{front_of, reads_well_formed, rest_of}
+use Rattle.qcir.proofs.SpelledParts.{statements_lead}
+use Rattle.qcir.proofs.StatedParts.{statements_are}
+use Rattle.qcir.proofs.Statements.{IsStated, OutputOf, Statement, by_name, gate_of_name, kind_of_gate, kind_text, line_of, plain, set_of}
+use Rattle.qcir.proofs.Statements.{signed_text, statements_of}
+use Rattle.qcir.proofs.WrittenLines.{header_before, lines_are, lines_inside}
+use Rattle.qcir.proofs.WrittenTokens.{HasNames, lines_named}
 
--- ---- what is spelled is read: names and literals between commas
+-- ---- the lines of a formula are those of its statements
 
-refused : (q : Quantifier) (f : QuestionFault) (ws : List Name) → bind_all q (Err f) ws ≡ Err f
-refused q f [] = refl
-refused q f (w ∷ ws) = refused q f ws
+join_map : {X Y : Type 0} (item : Y → List ℕ) (f : X → Y) (xs : List X)
+    → join_by item (44 ∷ 32 ∷ []) (map f xs) ≡ join_by (λ x. item (f x)) (44 ∷ 32 ∷ []) xs
+join_map item f [] = refl
+join_map item f (x ∷ xs) =
+    ap (λ (rest : List ℕ). item (f x) ++ rest) (flat_map-map (λ y. 44 ∷ 32 ∷ item y) f xs)
 
-members_tail : (q : Quantifier) (r : Result PartsSoFar QuestionFault) (ws : List Name) → members q false (names_tail ws) r ≡ bind_all q r ws
-members_tail q (Err f) ws = sym (refused q f ws)
-members_tail q (Ok b) [] = refl
-members_tail q (Ok b) (w ∷ ws) = members_tail q (bound q b (with_name b.names w)) ws
+set_same : (names : List Name) (s : Block) → line_of (set_of names s) ≡ set_line names s
+set_same names s =
+    ap (λ (items : List ℕ). quantifier_text s.quantifier ++ (40 ∷ (items ++ 41 ∷ []))) (join_map plain (name_of names) s.vars)
 
-module _ (names : List Name) where
-  one_literal : (negative : Bool) (w : Name) (ts : List Token)
-      → literals names true (signed negative w ts) ≡ and_literal (literal_named names negative w) (literals names false ts)
-  one_literal false w ts = refl
-  one_literal true w ts = refl
+word_same : (g : Gate) → kind_text (kind_of_gate g) ≡ gate_word g
+word_same (And ls) = refl
+word_same (Or ls) = refl
+word_same (Xor a b) = refl
+word_same (Ite a b c) = refl
 
-  literals_rest : (ms : List (Bool × Name)) → literals names false (literals_tail ms) ≡ all_named names ms
-  literals_rest [] = refl
-  literals_rest (m ∷ ms) =
-      one_literal m.0 m.1 (literals_tail ms) ∙ ap (and_literal (literal_named names m.0 m.1)) (literals_rest ms)
+gate_same : (names : List Name) (g : ℕ × Gate) → line_of (gate_of_name names g) ≡ gate_line names g
+gate_same names g =
+    let F : List ℕ → List ℕ → List ℕ = λ word items. name_of names g.0 ++ (32 ∷ 61 ∷ 32 ∷ (word ++ (40 ∷ (items ++ 41 ∷ [])))) in
+    ap (λ (word : List ℕ). F word (join_by signed_text (44 ∷ 32 ∷ []) (map (by_name names) (inputs_of g.1)))) (word_same g.1)
+    ∙ ap (F (gate_word g.1)) (join_map signed_text (by_name names) (inputs_of g.1))
 
-  not_empty : (negative : Bool) (w : Name) (ts : List Token) → inputs names (signed negative w ts) ≡ literals names true (signed negative w ts)
-  not_empty false w ts = refl
-  not_empty true w ts = refl
+map_both : {X : Type 0} (to : X → Statement) (line : X → List ℕ) (xs : List X) → ((x : X) → line_of (to x) ≡ line x)
+    → map line_of (map to xs) ≡ map line xs
+map_both to line [] same = refl
+map_both to line (x ∷ xs) same =
+    ap (λ (l : List ℕ). l ∷ map line_of (map to xs)) (same x) ∙ ap (λ (ls : List (List ℕ)). line x ∷ ls) (map_both to line xs same)
 
-  inputs_listed : (ms : List (Bool × Name)) → inputs names (literals_listed ms) ≡ all_named names ms
-  inputs_listed [] = refl
-  inputs_listed (m ∷ ms) =
-      not_empty m.0 m.1 (literals_tail ms)
-      ∙ (one_literal m.0 m.1 (literals_tail ms) ∙ ap (and_literal (literal_named names m.0 m.1)) (literals_rest ms))
+pub lines_same : (sets : List Block) (q : Question) → map line_of (statements_of sets q) ≡ lines_of sets q
+lines_same sets q =
+    let output = OutputOf q.formula.output.negative (name_of q.names q.formula.output.var) in
+    let gates = map (gate_of_name q.names) q.formula.gates in
+    map-append line_of (map (set_of q.names) sets) (output ∷ gates)
+    ∙ (ap (λ (ls : List (List ℕ)). ls ++ line_of output ∷ map line_of gates) (map_both (set_of q.names) (set_line q.names) sets (set_same q.names))
+    ∙ ap (λ (ls : List (List ℕ)). map (set_line q.names) sets ++ line_of output ∷ ls)
+    (map_both (gate_of_name q.names) (gate_line q.names) q.formula.gates (gate_same q.names)))
 
--- ---- and lines
+-- ---- words
 
-nothing_read : (s : State) (ts : List Token) → SaysNothing ts → row s ts ≡ Ok s
-nothing_read (InPrefix b) [] none = refl
-nothing_read (InPrefix b) (Sign Hash ∷ ts) none = refl
-nothing_read (InPrefix b) ts none = absurd none
-nothing_read (InGates b n w) [] none = refl
-nothing_read (InGates b n w) (Sign Hash ∷ ts) none = refl
-nothing_read (InGates b n w) ts none = absurd none
+word_parts : (w : Name) → IsWord w → (w ≢ []) × AllByRecursion (λ b. is_word_byte b ≡ true) w
+word_parts [] word = absurd word
+word_parts (b ∷ bs) word = ((λ none. absurd (cc none)), word)
 
-output_read : (b : PartsSoFar) (negative : Bool) (w : Name) → output_row b (signed negative w (Sign Close ∷ [])) ≡ Ok (InGates b negative w)
-output_read b false w = refl
-output_read b true w = refl
+word_whole : (w : Name) → (w ≢ []) × AllByRecursion (λ b. is_word_byte b ≡ true) w → IsWord w
+word_whole [] parts = absurd (parts.0 refl)
+word_whole (b ∷ bs) parts = parts.1
 
-set_read : (b : PartsSoFar) (q : Quantifier) (k : Keyword) (ts : List Token) → k ≡ word_of q
-    → prefix_line b k ts ≡ set_row (members q true ts (Ok b))
-set_read b All k ts is = rw is refl
-set_read b Exists k ts is = rw is refl
+all_parts : (ws : List Name) → AllByRecursion IsWord ws → AllByRecursion (λ w. (w ≢ []) × AllByRecursion (λ b. is_word_byte b ≡ true) w) ws
+all_parts [] all = tt
+all_parts (w ∷ ws) all = (word_parts w all.0, all_parts ws all.1)
 
-statement_read : (s : State) (ts : List Token) (st : Statement) (t : State) → Says ts st → Leads s st t → row s ts ≡ Ok t
-statement_read (InPrefix b) ts (SetOf q []) t said lead = absurd said
-statement_read (InPrefix b) ts (SetOf q (w ∷ ws)) t said lead =
-    let tokens_are = said.2 in
-    rw tokens_are (set_read b q (keyword_of said.0) (Word w ∷ names_tail ws) said.1
-    ∙ (ap set_row (members_tail q (bound q b (with_name b.names w)) ws ∙ lead.1) ∙ ap Ok lead.2))
-statement_read (InPrefix b) ts (OutputOf negative w) t said lead =
-    let tokens_are = said.2 in
-    let word_is = said.1 in
-    rw (tokens_are, word_is) (output_read b negative w ∙ ap Ok lead)
-statement_read (InPrefix b) ts (GateOf w kind ms) t said lead = absurd lead
-statement_read (InGates b n v) ts (SetOf q ws) t said lead = absurd lead
-statement_read (InGates b n v) ts (OutputOf negative w) t said lead = absurd lead
-statement_read (InGates b n v) ts (GateOf w kind ms) t said lead =
-    let tokens_are = said.2 in
-    let kind_is = said.1 in
-    rw (tokens_are, kind_is) (ap (gates_state n v) (ap (gate b w kind) (inputs_listed b.names ms) ∙ lead.1) ∙ ap Ok lead.2)
+pub all_words : (ws : List Name) → AllByRecursion (λ w. (w ≢ []) × AllByRecursion (λ b. is_word_byte b ≡ true) w) ws → AllByRecursion IsWord ws
+all_words [] all = tt
+all_words (w ∷ ws) all = (word_whole w all.0, all_words ws all.1)
 
-lines_read : (s : State) (n : ℕ) (lines : List (List ℕ)) (sts : List Statement) (t : State) (q : Question) → Say lines sts → LeadAll s sts t
-    → result_at t ≡ Ok q → read_lines (Ok s) n lines ≡ Ok q
-lines_read s n [] [] t q said lead is = ap (on_line n) (ap result_at lead ∙ is)
-lines_read s n [] (st ∷ sts) t q said lead is = absurd said
-lines_read s n (line ∷ lines) [] t q said lead is =
-    ap (λ r. read_lines (on_line (n + 1) r) (n + 1) lines) (nothing_read s (tokens line) said.0)
-    ∙ lines_read s (n + 1) lines [] t q said.1 lead is
-lines_read s n (line ∷ lines) (st ∷ sts) t q (inl said) lead is =
-    ap (λ r. read_lines (on_line (n + 1) r) (n + 1) lines) (nothing_read s (tokens line) said.0)
-    ∙ lines_read s (n + 1) lines (st ∷ sts) t q said.1 lead is
-lines_read s n (line ∷ lines) (st ∷ sts) t q (inr said) lead is =
-    ap (λ r. read_lines (on_line (n + 1) r) (n + 1) lines) (statement_read s (tokens line) st lead.0 said.0 lead.1)
-    ∙ lines_read lead.0 (n + 1) lines sts t q said.1 lead.2 is
+-- ---- what is read is spelled
 
-question_read : (bytes : List ℕ) (q : Question) → IsQuestion bytes q → read_gates bytes ≡ Ok q
-question_read bytes q is =
-    let header = is.header in
-    ap read_whole is.split ∙ (rw header (lines_read AtPrefix 1 is.lines is.statements is.last q is.said is.lead is.result))
+-- the numbers of the variables of sets, and of gates
+by_sets : (sets : List Block) (q : Question) → q.formula.blocks ≡ blocks_of (pairs sets) → names q.formula ≡ range_with_len 1 (length q.names)
+    → variables (pairs sets) ++ gate_names q.formula.gates ≡ range_with_len 1 (length q.names)
+by_sets sets q blocks numbered =
+    let same : pairs q.formula.blocks ≡ pairs sets = ap pairs blocks ∙ pairs-blocks_of (pairs sets) in
+    ap (λ (ps : List (Quantifier × ℕ)). variables ps ++ gate_names q.formula.gates) (sym same) ∙ numbered
 
--- ---- what is read is spelled: names and literals between commas
-
-members_inv : (q : Quantifier) (ts : List Token) (r : Result PartsSoFar QuestionFault) (c : PartsSoFar) → members q false ts r ≡ Ok c
-    → (ws : List Name) × (ts ≡ names_tail ws) × (bind_all q r ws ≡ Ok c)
-members_inv q ts (Err f) c is = absurd cc
-members_inv q (Sign Comma ∷ Word w ∷ us) (Ok b) c is =
-    let rest = members_inv q us (bound q b (with_name b.names w)) c is in
-    (w ∷ rest.0, ap (λ (ts : List Token). Sign Comma ∷ Word w ∷ ts) rest.1, rest.2)
-members_inv q (Sign Close ∷ []) (Ok b) c is = ([], refl, is)
-members_inv q ts (Ok b) c is = absurd cc
-
-set_inv : (q : Quantifier) (ts : List Token) (b c : PartsSoFar) → members q true ts (Ok b) ≡ Ok c
-    → (w : Name) × (ws : List Name) × (ts ≡ Word w ∷ names_tail ws) × (bind_all q (Ok b) (w ∷ ws) ≡ Ok c)
-set_inv q (Word w ∷ us) b c is =
-    let rest = members_inv q us (bound q b (with_name b.names w)) c is in
-    (w, rest.0, ap (λ (ts : List Token). Word w ∷ ts) rest.1, rest.2)
-set_inv q ts b c is = absurd cc
-
-and_inv : (r : Result Literal QuestionFault) (rest : Result (List Literal) QuestionFault) (ls : List Literal) → and_literal r rest ≡ Ok ls
-    → (ms : List Literal) × (rest ≡ Ok ms)
-and_inv (Err f) rest ls is = absurd cc
-and_inv (Ok l) (Err f) ls is = absurd cc
-and_inv (Ok l) (Ok ms) ls is = (ms, refl)
-
-module _ (names : List Name) where
-  literals_inv : (ts : List Token) (ls : List Literal) → literals names false ts ≡ Ok ls → (ms : List (Bool × Name)) × (ts ≡ literals_tail ms)
-  literals_inv (Sign Comma ∷ Word w ∷ us) ls is =
-      let found = and_inv (literal_named names false w) (literals names false us) ls is in
-      let rest = literals_inv us found.0 found.1 in
-      ((false, w) ∷ rest.0, ap (λ (ts : List Token). Sign Comma ∷ Word w ∷ ts) rest.1)
-  literals_inv (Sign Comma ∷ Sign Minus ∷ Word w ∷ us) ls is =
-      let found = and_inv (literal_named names true w) (literals names false us) ls is in
-      let rest = literals_inv us found.0 found.1 in
-      ((true, w) ∷ rest.0, ap (λ (ts : List Token). Sign Comma ∷ Sign Minus ∷ Word w ∷ ts) rest.1)
-  literals_inv (Sign Close ∷ []) ls is = ([], refl)
-  literals_inv ts ls is = absurd cc
-
-  inputs_inv : (ts : List Token) (ls : List Literal) → inputs names ts ≡ Ok ls → (ms : List (Bool × Name)) × (ts ≡ literals_listed ms)
-  inputs_inv (Word w ∷ us) ls is =
-      let found = and_inv (literal_named names false w) (literals names false us) ls is in
-      let rest = literals_inv us found.0 found.1 in
-      ((false, w) ∷ rest.0, ap (λ (ts : List Token). Word w ∷ ts) rest.1)
-  inputs_inv (Sign Minus ∷ Word w ∷ us) ls is =
-      let found = and_inv (literal_named names true w) (literals names false us) ls is in
-      let rest = literals_inv us found.0 found.1 in
-      ((true, w) ∷ rest.0, ap (λ (ts : List Token). Sign Minus ∷ Word w ∷ ts) rest.1)
-  inputs_inv (Sign Close ∷ []) ls is = ([], refl)
-  inputs_inv ts ls is = absurd cc
-
--- ---- and lines
-
--- the line says nothing, or a statement that leads on
-IsSaid : State → List Token → State → Type 0
-IsSaid s ts t = (SaysNothing ts × (s ≡ t)) ⊎ ((st : Statement) × Says ts st × Leads s st t)
-
-inv_set : (b : PartsSoFar) (q : Quantifier) (word : Name) (ts : List Token) (t : State) → keyword_of word ≡ word_of q
-    → set_row (members q true ts (Ok b)) ≡ Ok t → IsSaid (InPrefix b) (Word word ∷ Sign Open ∷ ts) t
-unfolding IsSaid
-inv_set b q word ts t is set = found (members q true ts (Ok b)) refl set
+-- inputs are of names before their gate
+in_order : (q : Question) → IsWellFormed q.formula → names q.formula ≡ range_with_len 1 (length q.names)
+    → AllByRecursion (λ g. AllByRecursion (λ l. (1 ≤ l.var) × (l.var < g.0)) (inputs_of g.1)) q.formula.gates
+in_order q formed numbered =
+    let vs = variables (pairs q.formula.blocks) in
+    let parts = parts_of_range vs (gate_names q.formula.gates) 1 (length q.names) numbered in
+    let many : length (gate_names q.formula.gates) ≡ length q.formula.gates = count q.formula.gates in
+    order_below vs q.formula.gates (1 + length vs) (omega arith)
+    (λ v h. in_range 1 (length vs) v (subst (λ (ks : List ℕ). v ∈ ks) parts.0 h))
+    (parts.1 ∙ ap (range_with_len (1 + length vs)) many) formed.order
   where
-    found : (r : Result PartsSoFar QuestionFault) → members q true ts (Ok b) ≡ r → set_row r ≡ Ok t
-        → (SaysNothing (Word word ∷ Sign Open ∷ ts) × (InPrefix b ≡ t))
-        ⊎ ((st : Statement) × Says (Word word ∷ Sign Open ∷ ts) st × Leads (InPrefix b) st t)
-    found (Err f) from is_ok = absurd cc
-    found (Ok c) from is_ok =
-        let parts = set_inv q ts b c from in
-        let same : InPrefix c ≡ t = cc in
-        inr (SetOf q (parts.0 ∷ parts.1), (word, is, ap (λ (us : List Token). Word word ∷ Sign Open ∷ us) parts.2), (c, parts.3, same))
+    count : (gates : List (ℕ × Gate)) → length (gate_names gates) ≡ length gates
+    count [] = refl
+    count (g ∷ gates) = let rest = count gates in omega (arith, rest)
 
-inv_output : (b : PartsSoFar) (word : Name) (ts : List Token) (t : State) → keyword_of word ≡ words.Output → output_row b ts ≡ Ok t
-    → IsSaid (InPrefix b) (Word word ∷ Sign Open ∷ ts) t
-unfolding IsSaid
-inv_output b word (Word w ∷ Sign Close ∷ []) t is row_is = let same : InGates b false w ≡ t = cc in inr (OutputOf false w, (word, is, refl), same)
-inv_output b word (Sign Minus ∷ Word w ∷ Sign Close ∷ []) t is row_is =
-    let same : InGates b true w ≡ t = cc in inr (OutputOf true w, (word, is, refl), same)
-inv_output b word ts t is row_is = absurd cc
-
-inv_word : (b : PartsSoFar) (word : Name) (k : Keyword) (ts : List Token) (t : State) → keyword_of word ≡ k → prefix_line b k ts ≡ Ok t
-    → IsSaid (InPrefix b) (Word word ∷ Sign Open ∷ ts) t
-inv_word b word words.Exists ts t is row_is = inv_set b Exists word ts t is row_is
-inv_word b word words.Forall ts t is row_is = inv_set b All word ts t is row_is
-inv_word b word words.Output ts t is row_is = inv_output b word ts t is row_is
-inv_word b word k ts t is row_is = absurd cc
-
-inv_prefix : (b : PartsSoFar) (ts : List Token) (t : State) → prefix_row b ts ≡ Ok t → IsSaid (InPrefix b) ts t
-unfolding IsSaid
-inv_prefix b [] t is = let same : InPrefix b ≡ t = cc in inl (tt, same)
-inv_prefix b (Sign Hash ∷ ts) t is = let same : InPrefix b ≡ t = cc in inl (tt, same)
-inv_prefix b (Word w ∷ Sign Open ∷ ts) t is = inv_word b w (keyword_of w) ts t refl is
-inv_prefix b ts t is = absurd cc
-
--- a line after the output says nothing, or a gate
-IsGateSaid : PartsSoFar → List Token → PartsSoFar → Type 0
-IsGateSaid b ts c =
-    (SaysNothing ts × (b ≡ c))
-    ⊎ ((w : Name) × (kind : GateKind) × (ms : List (Bool × Name)) × Says ts (GateOf w kind ms) × (gate b w kind (all_named b.names ms) ≡ Ok c))
-
-inv_gate : (b : PartsSoFar) (w word : Name) (kind : GateKind) (ts : List Token) (r : Result (List Literal) QuestionFault) (c : PartsSoFar)
-    → kind_of (keyword_of word) ≡ Ok kind → inputs b.names ts ≡ r → gate b w kind r ≡ Ok c
-    → IsGateSaid b (Word w ∷ Sign Equals ∷ Word word ∷ Sign Open ∷ ts) c
-unfolding IsGateSaid
-inv_gate b w word kind ts (Err f) c is from made = absurd cc
-inv_gate b w word kind ts (Ok ls) c is from made =
-    let found = inputs_inv b.names ts ls from in
-    let named : all_named b.names found.0 ≡ Ok ls =
-    sym (inputs_listed b.names found.0) ∙ (ap (inputs b.names) (sym found.1) ∙ from) in
-    inr (
-      w,
-      kind,
-      found.0,
-      (word, is, ap (λ (us : List Token). Word w ∷ Sign Equals ∷ Word word ∷ Sign Open ∷ us) found.1),
-      ap (gate b w kind) named ∙ made,
-    )
-
-inv_kind : (b : PartsSoFar) (w word : Name) (k : Result GateKind QuestionFault) (ts : List Token) (c : PartsSoFar)
-    → kind_of (keyword_of word) ≡ k → gate_line b w k ts ≡ Ok c → IsGateSaid b (Word w ∷ Sign Equals ∷ Word word ∷ Sign Open ∷ ts) c
-inv_kind b w word (Err f) ts c is line = absurd cc
-inv_kind b w word (Ok kind) ts c is line = inv_gate b w word kind ts (inputs b.names ts) c is refl line
-
-inv_gates : (b : PartsSoFar) (ts : List Token) (c : PartsSoFar) → gates_row b ts ≡ Ok c → IsGateSaid b ts c
-unfolding IsGateSaid
-inv_gates b [] c is = let same : b ≡ c = cc in inl (tt, same)
-inv_gates b (Sign Hash ∷ ts) c is = let same : b ≡ c = cc in inl (tt, same)
-inv_gates b (Word w ∷ Sign Equals ∷ Word k ∷ Sign Open ∷ ts) c is = inv_kind b w k (kind_of (keyword_of k)) ts c refl is
-inv_gates b ts c is = absurd cc
-
-inv_after : (b : PartsSoFar) (n : Bool) (v : Name) (ts : List Token) (r : Result PartsSoFar QuestionFault) (t : State)
-    → ((c : PartsSoFar) → r ≡ Ok c → IsGateSaid b ts c) → gates_state n v r ≡ Ok t → IsSaid (InGates b n v) ts t
-unfolding IsGateSaid IsSaid
-inv_after b n v ts (Err f) t said is = absurd cc
-inv_after b n v ts (Ok c) t said is =
-    let same : InGates c n v ≡ t = cc in
-    elim (said c refl) [
-      | inl none ↦ inl (none.0, ap (λ (d : PartsSoFar). InGates d n v) none.1 ∙ same)
-      | inr some ↦ inr (GateOf some.0 some.1 some.2, some.3, (c, some.4, same))
-    ]
-
-inv_row : (s : State) (ts : List Token) (t : State) → row s ts ≡ Ok t → IsSaid s ts t
-inv_row (InPrefix b) ts t is = inv_prefix b ts t is
-inv_row (InGates b n v) ts t is = inv_after b n v ts (gates_row b ts) t (inv_gates b ts) is
-
--- ---- the whole
-
-record AreSaid (s : State) (lines : List (List ℕ)) (q : Question) : Type 0 where
-  statements : List Statement
-  said : Say lines statements
-  last : State
-  lead : LeadAll s statements last
-  result : result_at last ≡ Ok q
-
-off_line : {A : Type 0} (n : ℕ) (r : Result A QuestionFault) (a : A) → on_line n r ≡ Ok a → r ≡ Ok a
-off_line n (Err f) a is = absurd cc
-off_line n (Ok b) a is = cc
-
-silent : (line : List ℕ) (lines : List (List ℕ)) (sts : List Statement) → SaysNothing (tokens line) → Say lines sts → Say (line ∷ lines) sts
-silent line lines [] none said = (none, said)
-silent line lines (st ∷ sts) none said = inl (none, said)
-
-one_more : (s next : State) (line : List ℕ) (lines : List (List ℕ)) (q : Question) → IsSaid s (tokens line) next → AreSaid next lines q
-    → AreSaid s (line ∷ lines) q
-unfolding IsSaid
-one_more s next line lines q (inl none) rest = record {
-  statements = rest.statements;
-  said = silent line lines rest.statements none.0 rest.said;
-  last = rest.last;
-  lead = subst (λ (u : State). LeadAll u rest.statements rest.last) (sym none.1) rest.lead;
-  result = rest.result;
-}
-one_more s next line lines q (inr some) rest = record {
-  statements = some.0 ∷ rest.statements;
-  said = inr (some.1, rest.said);
-  last = rest.last;
-  lead = (next, some.2, rest.lead);
-  result = rest.result;
-}
-
-lines_inv : (r : Result State (QuestionFault × ℕ)) (n : ℕ) (lines : List (List ℕ)) (q : Question) → read_lines r n lines ≡ Ok q
-    → (s : State) × (r ≡ Ok s) × AreSaid s lines q
-lines_inv (Err e) n lines q is = absurd cc
-lines_inv (Ok s) n [] q is =
-    (s, refl, record { statements = []; said = tt; last = s; lead = refl; result = off_line n (result_at s) q is })
-lines_inv (Ok s) n (line ∷ lines) q is =
-    let rest = lines_inv (on_line (n + 1) (row s (tokens line))) (n + 1) lines q is in
-    let step = off_line (n + 1) (row s (tokens line)) rest.0 rest.1 in
-    (s, refl, one_more s rest.0 line lines q (inv_row s (tokens line) rest.0 step) rest.2)
-
-whole : (bytes first : List ℕ) (lines : List (List ℕ)) (q : Question) (r : Result State (QuestionFault × ℕ))
-    → slice_split is_line_end bytes ≡ first ∷ lines → is_header (tokens first) ≡ true → r ≡ Ok AtPrefix
-    → (s : State) × (r ≡ Ok s) × AreSaid s lines q → IsQuestion bytes q
-whole bytes first lines q r split header start found =
-    let same : found.0 ≡ AtPrefix = cc (found.1) in
-    let said = found.2 in
+read_is_spelled : (bytes : List ℕ) (q : Question) → read_gates bytes ≡ Ok q → IsQuestion bytes q
+read_is_spelled bytes q read =
+    let is = read_is_stated bytes q read in
+    let of = statements_are is.statements is.last q (lines_named is.lines is.statements is.said) is.lead is.result in
+    let given = names_given bytes q is in
+    let sound = reads_well_formed bytes q read in
+    let split = first_and_rest bytes is.first is.lines is.split in
     record {
-      first = first;
-      lines = lines;
-      split = split;
-      header = header;
-      statements = said.statements;
-      said = said.said;
-      last = said.last;
-      lead = subst (λ (u : State). LeadAll u said.statements said.last) same said.lead;
-      result = said.result;
+      header = subst IsHeader (sym split.0) (is_header_of is.first is.header);
+      sets = of.sets;
+      filled = of.filled;
+      blocks = of.blocks;
+      said = split.1
+          ∙ (said_lines is.lines is.statements is.said
+          ∙ (ap (λ (sts : List Statement). map runs (map line_of sts)) of.same ∙ ap (map runs) (lines_same of.sets q)));
+      words = all_parts q.names given.words;
+      distinct = given.distinct;
+      few = given.few;
+      numbered = sound.1;
+      order = in_order q sound.0 sound.1;
+      output = of_range (names q.formula) q.formula.output (length q.names) sound.1 sound.0.output;
     }
 
-whole_inv : (bytes : List ℕ) (lines : List (List ℕ)) (q : Question) → slice_split is_line_end bytes ≡ lines → read_whole lines ≡ Ok q
-    → IsQuestion bytes q
-whole_inv bytes [] q split is = absurd cc
-whole_inv bytes (first ∷ lines) q split is =
-    elim (cases_Bool (is_header (tokens first))) [
-      | inl e ↦ (let read = rw e at is in whole bytes first lines q (Ok AtPrefix) split e refl (lines_inv (Ok AtPrefix) 1 lines q read))
-      | inr e ↦ (let none = rw e at is in absurd cc)
+-- ---- the names of statements
+
+module _ (ns : List Name) (words : AllByRecursion IsWord ns) where
+  all_good : (vs : List ℕ) → AllByRecursion (IsUpTo (length ns)) vs → AllByRecursion IsWord (map (name_of ns) vs)
+  all_good [] all = tt
+  all_good (v ∷ vs) all = (name_is ns v words all.0, all_good vs all.1)
+
+  own_first : (q : Quantifier) (vs : List ℕ) (ps : List (Quantifier × ℕ)) → AllByRecursion (IsUpTo (length ns)) (variables (map (λ v. (q, v)) vs ++ ps))
+      → AllByRecursion (IsUpTo (length ns)) vs × AllByRecursion (IsUpTo (length ns)) (variables ps)
+  own_first q [] ps all = (tt, all)
+  own_first q (v ∷ vs) ps all = let rest = own_first q vs ps all.1 in ((all.0, rest.0), rest.1)
+
+  set_named : (s : Block) (vs : List ℕ) → s.vars ≡ vs → vs ≢ [] → AllByRecursion (IsUpTo (length ns)) vs → HasNames (set_of ns s)
+  set_named s [] is some all = absurd (some refl)
+  set_named s (v ∷ vs) is some all = rw is (all_good (v ∷ vs) all)
+
+  sets_named : (sets : List Block) → AllByRecursion (λ s. s.vars ≢ []) sets → AllByRecursion (IsUpTo (length ns)) (variables (pairs sets))
+      → AllByRecursion HasNames (map (set_of ns) sets)
+  sets_named [] some within = tt
+  sets_named (s ∷ sets) some within =
+      let own = own_first s.quantifier s.vars (pairs sets) within in
+      (set_named s s.vars refl some.0 own.0, sets_named sets some.1 own.1)
+
+  inputs_good : (n : ℕ) (ls : List Literal) → n ≤ length ns → AllByRecursion (λ l. (1 ≤ l.var) × (l.var < n)) ls
+      → AllByRecursion (λ m. IsWord m.1) (map (by_name ns) ls)
+  inputs_good n [] less all = tt
+  inputs_good n (l ∷ ls) less all = (name_is ns l.var words (all.0.0, omega (arith, all.0.1)), inputs_good n ls less all.1)
+
+  gates_named : (gates : List (ℕ × Gate)) → AllByRecursion (IsUpTo (length ns)) (gate_names gates)
+      → AllByRecursion (λ g. AllByRecursion (λ l. (1 ≤ l.var) × (l.var < g.0)) (inputs_of g.1)) gates
+      → AllByRecursion HasNames (map (gate_of_name ns) gates)
+  gates_named [] within order = tt
+  gates_named (g ∷ gates) within order =
+      ((name_is ns g.0 words within.0, inputs_good g.0 (inputs_of g.1) within.0.1 order.0), gates_named gates within.1 order.1)
+
+statements_named : (bytes : List ℕ) (q : Question) (is : IsQuestion bytes q) (sets : List Block) → AllByRecursion (λ s. s.vars ≢ []) sets
+    → q.formula.blocks ≡ blocks_of (pairs sets) → AllByRecursion HasNames (statements_of sets q)
+statements_named bytes q is sets filled blocks =
+    let n = length q.names in
+    let words = all_words q.names is.words in
+    let within = subst (AllByRecursion (IsUpTo n)) (sym (by_sets sets q blocks is.numbered)) (range_within 1 n n (omega arith) (omega arith)) in
+    let vs = variables (pairs sets) in
+    let us = gate_names q.formula.gates in
+    let out = q.formula.output in
+    all_appended HasNames (map (set_of q.names) sets) (OutputOf out.negative (name_of q.names out.var) ∷ map (gate_of_name q.names) q.formula.gates)
+    (sets_named q.names words sets filled (front_of (IsUpTo n) vs us within))
+    (name_is q.names out.var words is.output, gates_named q.names words q.formula.gates (rest_of (IsUpTo n) vs us within) is.order)
+
+-- ---- what is spelled is read
+
+-- bytes have a first line
+first_line : (bytes : List ℕ) → (first : List ℕ) × (lines : List (List ℕ)) × (slice_split is_line_end bytes ≡ first ∷ lines)
+first_line [] = ([], [], refl)
+first_line (b ∷ bytes) =
+    elim (cases_Bool (is_line_end b)) [
+      | inl e ↦ ([], slice_split is_line_end bytes, slice_split-cons_yes is_line_end b bytes e)
+      | inr e ↦ (let found = onto (slice_split is_line_end bytes) in
+          (found.0, found.1, slice_split-cons_no is_line_end b bytes e ∙ found.2))
     ]
+  where
+    onto : (lines : List (List ℕ)) → (first : List ℕ) × (more : List (List ℕ)) × (onto_first b lines ≡ first ∷ more)
+    onto [] = (b ∷ [], [], refl)
+    onto (line ∷ lines) = (b ∷ line, lines, refl)
+
+spelled_is_stated : (bytes : List ℕ) (q : Question) → IsQuestion bytes q → IsStated bytes q
+spelled_is_stated bytes q is =
+    let text = first_line bytes in
+    let split = first_and_rest bytes text.0 text.1 text.2 in
+    let named = statements_named bytes q is is.sets is.filled is.blocks in
+    let lead = statements_lead is.sets q is.few is.distinct is.blocks (by_sets is.sets q is.blocks is.numbered) is.order is.output in
+    record {
+      first = text.0;
+      lines = text.1;
+      split = text.2;
+      header = header_is text.0 (subst IsHeader split.0 is.header);
+      statements = statements_of is.sets q;
+      said = lines_said text.1 (statements_of is.sets q) named
+          (sym split.1 ∙ (is.said ∙ ap (map runs) (sym (lines_same is.sets q))));
+      last = lead.last;
+      lead = lead.lead;
+      result = lead.result;
+    }
 
 pub reads_questions : ReadsQuestions
-reads_questions bytes q = (λ is. whole_inv bytes (slice_split is_line_end bytes) q refl is, λ is. question_read bytes q is)
+reads_questions bytes q = (λ is. read_is_spelled bytes q is, λ is. stated_is_read bytes q (spelled_is_stated bytes q is))
+
+-- ---- the canonical text
+
+blocks_filled : (bs : List Block) → Alternates bs → AllByRecursion (λ s. s.vars ≢ []) bs
+blocks_filled [] some = tt
+blocks_filled (b ∷ []) some = (some, tt)
+blocks_filled (b ∷ c ∷ bs) some = (some.0, blocks_filled (c ∷ bs) some.2)
+
+text_spells : (bytes : List ℕ) (q : Question) → IsQuestion bytes q → IsQuestion (text q) q
+text_spells bytes q is =
+    let bs = q.formula.blocks in
+    let alternates = subst Alternates (sym is.blocks) (Alternates-blocks_of (pairs is.sets)) in
+    let filled = blocks_filled bs alternates in
+    let blocks : bs ≡ blocks_of (pairs bs) = sym (blocks_of-pairs bs alternates) in
+    let named = statements_named bytes q is bs filled blocks in
+    let sts = statements_of bs q in
+    let lines = lines_of bs q in
+    let same = lines_same bs q in
+    let inside = subst (AllByRecursion (λ line. AllByRecursion (λ b. is_line_end b ≡ false) line)) same (lines_inside sts named) in
+    let rest = flat_map (λ (line : List ℕ). line ++ 10 ∷ []) lines in
+    let split = first_and_rest (text q) (codes "#QCIR-14") (slice_split is_line_end rest) (header_before rest) in
+    let says : List (List ℕ) → List (List (List ℕ)) = λ ls. filter says_something (map runs ls) in
+    record {
+      header = subst IsHeader (sym split.0) ([], refl, inl refl);
+      sets = bs;
+      filled = filled;
+      blocks = blocks;
+      said = split.1
+          ∙ (ap says (lines_are lines inside)
+          ∙ (ap (λ (ls : List (List ℕ)). says (ls ++ [] ∷ [])) (sym same) ∙ (all_said sts named ∙ ap (map runs) same)));
+      words = is.words;
+      distinct = is.distinct;
+      few = is.few;
+      numbered = is.numbered;
+      order = is.order;
+      output = is.output;
+    }
+
+pub reads_back : ReadsBack
+reads_back bytes q is = (reads_questions (text q) q).1 (text_spells bytes q ((reads_questions bytes q).0 is))

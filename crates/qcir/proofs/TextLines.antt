@@ -1,11 +1,13 @@
 -- The lines of a text, one after the other.
-use Rattle.std.proofs.Common.{arith, ◌≡◌, ℕ, ◌+◌, ◌<◌, ◌≤◌, Bool, true, false, List, [], ◌∷◌, length, take, drop, Some, None, Ok, nat_lt}
+use Rattle.std.proofs.Common.{arith, ◌≡◌, ℕ, zero, suc, ◌+◌, ◌<◌, ◌≤◌, Bool, true, false, List, [], ◌∷◌, length, take, drop, Option, Some, None, Ok, nat_lt}
+use Rattle.std.proofs.Common.{slice_index}
 use Rattle.std.proofs.Common.{refl, sym, ap, subst, ◌∙◌, inl, inr, if◌then◌else◌}
 use Rattle.std.specs.Prelude.{position}
 use Rattle.std.specs.List.{onto_first, position_or_len, slice_split}
 use Rattle.std.proofs.lemmas.Bool.{cases_Bool}
 use Rattle.std.proofs.lemmas.Bool.Decides.{nat_tests}
 use Rattle.std.proofs.lemmas.List.Splits.{slice_split-cons_no, slice_split_first}
+use Rattle.memchr.specs.Find.{IsFirstByte, is_byte}
 use Rattle.qbf_core.proofs.BlockLaws.{blocks_of-pairs}
 use Rattle.qbf_core.specs.Blocks.{Block, IsPrefix, blocks_of, pairs}
 use Rattle.qbf_core.specs.Literal.{Literal}
@@ -15,7 +17,36 @@ use Rattle.qcir_tokens.specs.Tokens.{tokens}
 use Rattle.qcir.specs.Names.{Name}
 use Rattle.qcir.specs.Reading.{AtPrefix, Question, State, is_header, on_line, read_gates, read_lines, read_whole, row}
 
-one_line : (bs : List ℕ) → length bs ≤ position_or_len is_line_end bs → slice_split is_line_end bs ≡ bs ∷ []
+-- the first byte that passes a test
+at_place : (bs : List ℕ) (k : ℕ) → k < length bs → ((j : ℕ) → j < k → is_line_end (slice_index bs j) ≡ false)
+    → is_line_end (slice_index bs k) ≡ true → position_or_len is_line_end bs ≡ k
+at_place [] k within before here = absurd (omega arith)
+at_place (b ∷ bs) zero within before here = rw here refl
+at_place (b ∷ bs) (suc k) within before here =
+    let rest = at_place bs k (omega arith) (λ j l. before (suc j) (omega arith)) here in
+    rw (before 0 (omega arith)) (omega (arith, rest))
+
+at_none : (bs : List ℕ) → ((j : ℕ) → j < length bs → is_line_end (slice_index bs j) ≡ false)
+    → position_or_len is_line_end bs ≡ length bs
+at_none [] none = refl
+at_none (b ∷ bs) none =
+    let rest = at_none bs (λ j l. none (suc j) (omega arith)) in
+    rw (none 0 (omega arith)) (omega (arith, rest))
+
+is_false : (b : Bool) → (b ≡ true → ⊥) → b ≡ false
+is_false true not_so = absurd (not_so refl)
+is_false false not_so = refl
+
+pub found_end : (bs : List ℕ) (r : Option ℕ) → IsFirstByte (is_byte 10) bs r → r ≡ position is_line_end bs
+found_end bs None nowhere =
+    let e = at_none bs (λ j l. is_false _ (nowhere j (omega arith) l)) in
+    rw e (grind (arith, nat_tests))
+found_end bs (Some k) found =
+    let e = at_place bs k found.0.high (λ j l. is_false _ (found.0.before j (omega arith) l)) found.1 in
+    let within : nat_lt k (length bs) ≡ true = grind (arith, nat_tests, found.0.high) in
+    rw (e, within) refl
+
+pub one_line : (bs : List ℕ) → length bs ≤ position_or_len is_line_end bs → slice_split is_line_end bs ≡ bs ∷ []
 one_line [] none = refl
 one_line (b ∷ bs) none =
     elim (cases_Bool (is_line_end b)) [

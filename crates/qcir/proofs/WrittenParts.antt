@@ -1,11 +1,11 @@
 -- The parts of a canonical text, one after the other.
-use Rattle.std.proofs.Common.{arith, ◌≡◌, ℕ, ◌+◌, List, [], ◌∷◌, ◌++◌, map, Option, Some, None, refl, sym, ap, ◌∙◌}
+use Rattle.std.proofs.Common.{arith, ◌≡◌, ℕ, ◌+◌, List, [], ◌∷◌, ◌++◌, Option, Some, None, refl, sym, ap, ◌∙◌}
 use Rattle.std.proofs.Common.{append_assoc, drop, slice_get, inl, inr}
 use Rattle.std.proofs.lemmas.Bool.{cases_Bool}
 use Rattle.std.specs.Prelude.{codes}
 use Rattle.std.proofs.lemmas.Grind.{common_steps, flat_map-append}
 use Rattle.std.proofs.lemmas.List.Folds.{flat_map-map}
-use Rattle.std.specs.List.{flat_map}
+use Rattle.std.specs.List.{flat_map, join_by}
 use Rattle.qbf_core.specs.declared.quantifier.Quantifier.{Quantifier}
 use Rattle.qbf_core.specs.Blocks.{Block, blocks_of, is_quantifier, with_pair}
 use Rattle.qbf_core.specs.Literal.{Literal}
@@ -14,19 +14,16 @@ use Rattle.qbf_gates.specs.declared.kind.GateKind.TheVariants.{Choice, Conjuncti
 use Rattle.qbf_gates.specs.Gates.{Gate, inputs_of}
 use Rattle.qbf_gates.specs.Kept.{gate_of}
 use Rattle.qbf_text.proofs.SentParts.{drop_at}
-use Rattle.qcir.specs.Names.{Name}
-use Rattle.qcir.specs.Reading.{Question}
-use Rattle.qcir.specs.Texts.{by_name, closed_text, gate_of_name, kind_of_gate, kind_text, line_text, listed_text, name_of, quantifier_text}
-use Rattle.qcir.specs.Texts.{set_of, signed_text, text}
-use Rattle.qcir.specs.Written.{blocks_rest, gates_text, input_text, opening, set_opening, sets_text}
+use Rattle.qcir.specs.Names.{Name, Question}
+use Rattle.qcir.specs.Texts.{gate_line, gate_word, literal_text, name_of, quantifier_text, set_line, text}
+use Rattle.qcir.specs.Written.{blocks_rest, closed_text, gates_text, input_text, opening, set_opening, sets_text}
 
 -- ---- literals
 
 -- literals by their first one
 pub first_input : (names : List Name) (l : Literal) (ls : List Literal)
-    → listed_text (map (by_name names) (l ∷ ls)) ≡ signed_text (by_name names l) ++ flat_map (input_text names) ls
-first_input names l ls =
-    ap (λ (k : List ℕ). signed_text (by_name names l) ++ k) (flat_map-map (λ m. 44 ∷ 32 ∷ signed_text m) (by_name names) ls)
+    → join_by (literal_text names) (44 ∷ 32 ∷ []) (l ∷ ls) ≡ literal_text names l ++ flat_map (input_text names) ls
+first_input names l ls = refl
 
 -- ---- a prefix
 
@@ -73,24 +70,30 @@ inputs_kept Choice (a ∷ b ∷ []) = refl
 inputs_kept Choice (a ∷ b ∷ c ∷ []) = refl
 inputs_kept Choice (a ∷ b ∷ c ∷ d ∷ ls) = refl
 
+gate_closed : (names : List Name) (g : ℕ × Gate)
+    → gate_line names g ++ 10 ∷ [] ≡ name_of names g.0 ++ (32 ∷ 61 ∷ 32 ∷ (gate_word g.1 ++ closed_text names (inputs_of g.1)))
+gate_closed names g = grind (arith, common_steps, append_assoc)
+
 pub gates_next : (names : List Name) (gates : List (ℕ × Gate)) (i v : ℕ) (kind : GateKind) (ls : List Literal) (w word : Name)
-    → slice_get gates i ≡ Some (v, gate_of kind ls) → w ≡ name_of names v → word ≡ kind_text (kind_of_gate (gate_of kind ls))
+    → slice_get gates i ≡ Some (v, gate_of kind ls) → w ≡ name_of names v → word ≡ gate_word (gate_of kind ls)
     → gates_text names (drop i gates)
-    ≡ (w ++ (32 ∷ 61 ∷ 32 ∷ (word ++ closed_text (map (by_name names) ls)))) ++ gates_text names (drop (i + 1) gates)
+    ≡ (w ++ (32 ∷ 61 ∷ 32 ∷ (word ++ closed_text names ls))) ++ gates_text names (drop (i + 1) gates)
 gates_next names gates i v kind ls w word at is said =
-    rw (is, said, drop_at gates i (v, gate_of kind ls) at, inputs_kept kind ls) refl
+    let g : ℕ × Gate = (v, gate_of kind ls) in
+    ap (gates_text names) (drop_at gates i g at)
+    ∙ (ap (λ (line : List ℕ). line ++ gates_text names (drop (i + 1) gates)) (gate_closed names g)
+    ∙ rw (is, said, inputs_kept kind ls) refl)
 
 -- ---- the whole
 
 abbrev pub parts : List Name → List Block → List (ℕ × Gate) → Literal → List ℕ
 parts names bs gates l =
-    ((codes "#QCIR-14" ++ 10 ∷ sets_text names bs) ++ (codes "output" ++ closed_text (map (by_name names) (l ∷ []))))
-    ++ gates_text names gates
+    ((codes "#QCIR-14" ++ 10 ∷ sets_text names bs) ++ (codes "output" ++ closed_text names (l ∷ []))) ++ gates_text names gates
 
 text_parts : (q : Question) → text q ≡ parts q.names q.formula.blocks q.formula.gates q.formula.output
 text_parts q =
-    let sets = flat_map-map line_text (set_of q.names) q.formula.blocks in
-    let gates = flat_map-map line_text (gate_of_name q.names) q.formula.gates in
+    let sets = flat_map-map (λ (line : List ℕ). line ++ 10 ∷ []) (set_line q.names) q.formula.blocks in
+    let gates = flat_map-map (λ (line : List ℕ). line ++ 10 ∷ []) (gate_line q.names) q.formula.gates in
     grind (arith, common_steps, append_assoc, flat_map-append, sets, gates)
 
 pub text_of : (q : Question) (names : List Name) (bs : List Block) (gates : List (ℕ × Gate)) (l : Literal) → names ≡ q.names

@@ -1,105 +1,39 @@
--- The grammar of QCIR-14, prenex (Jordan, Klieber, Seidl 2016): what the lines of a text say, and the formula of gates that they give.
+-- The grammar of QCIR-14, prenex (Jordan, Klieber, Seidl 2016): which bytes spell a formula of gates.
 -- Beyond the standard, lines may be empty or have a comment anywhere after the first, and the last line needs no line end. Words of the
 -- format are in small letters.
-use Rattle.std.specs.Prelude.{◌≡◌, ◌⊎◌, ℕ, Bool, true, List, [], ◌∷◌, Result, Ok, Err}
-use Rattle.std.specs.List.{slice_split}
-use Rattle.qbf_core.specs.declared.quantifier.Quantifier.{Quantifier}
-use Rattle.qbf_core.specs.declared.quantifier.Quantifier.TheVariants.{All, Exists}
-use Rattle.qbf_core.specs.Literal.{Literal}
-use Rattle.qbf_gates.specs.declared.kind.GateKind.{GateKind}
+use Rattle.std.specs.Prelude.{◌≡◌, ◌≢◌, ◌⊎◌, ◌<◌, ◌≤◌, ℕ, Bool, true, false, not, List, [], ◌∷◌, ◌++◌, map, filter, length, bytes_eq, codes}
+use Rattle.std.specs.Char.{is_ascii_digit}
+use Rattle.std.specs.List.{AllByRecursion, IsDistinct, after_first, before_first, list_all, range_with_len, slice_split}
+use Rattle.qbf_core.specs.Blocks.{Block, blocks_of, pairs}
+use Rattle.qbf_gates.specs.Gates.{inputs_of, names}
 use Rattle.qbf_tokens.specs.Tokens.{is_line_end}
-use Rattle.qcir_tokens.specs.declared.mark.Mark.TheVariants.{Close, Comma, Equals, Open}
-use Rattle.qcir_tokens.specs.Tokens.{Token, Word, Sign, tokens}
-use Rattle.qcir.specs.declared.fault.QuestionFault.{QuestionFault}
-use Rattle.qcir.specs.declared.keyword.Keyword.{Keyword}
-use Rattle.qcir.specs.declared.keyword.Keyword.TheVariants as words
-use Rattle.qcir.specs.Words.{keyword_of}
-use Rattle.qcir.specs.Names.{Name, literal_named, with_name}
-use Rattle.qcir.specs.Lines.{SaysNothing, signed}
-use Rattle.qcir.specs.Reading.{AtPrefix, InGates, InPrefix, PartsSoFar, Question, State, and_literal, bound, gate, is_header, kind_of, result_at}
+use Rattle.qcir_tokens.specs.Tokens.{is_word_byte, runs}
+use Rattle.qcir.specs.Names.{Question}
+use Rattle.qcir.specs.Texts.{lines_of}
 
--- ---- lines
+-- the first line: `#QCIR-14` or `#QCIR-G14`, and a number or nothing
+abbrev pub IsHeader : List ℕ → Type 0
+IsHeader line = (number : List ℕ) × (list_all is_ascii_digit number ≡ true)
+    × ((runs line ≡ runs (codes "#QCIR-14 " ++ number)) ⊎ (runs line ≡ runs (codes "#QCIR-G14 " ++ number)))
 
--- what a line says: a set; the output, negated or not; or a gate with its name, its kind and its inputs, each negated or not
-pub data Statement : Type 0 where
-  SetOf : Quantifier → List Name → Statement
-  OutputOf : Bool → Name → Statement
-  GateOf : Name → GateKind → List (Bool × Name) → Statement
+-- whether a line of these runs says something: it is neither empty nor a comment
+abbrev pub says_something : List (List ℕ) → Bool
+says_something [] = false
+says_something (r ∷ rs) = not (bytes_eq r (codes "#"))
 
--- names that go on after a comma, and `)`
-abbrev pub names_tail : List Name → List Token
-names_tail [] = Sign Close ∷ []
-names_tail (w ∷ ws) = Sign Comma ∷ Word w ∷ names_tail ws
-
--- literals that go on after a comma, and `)`
-abbrev pub literals_tail : List (Bool × Name) → List Token
-literals_tail [] = Sign Close ∷ []
-literals_tail (m ∷ ms) = Sign Comma ∷ signed m.0 m.1 (literals_tail ms)
-
--- literals between commas, or none, and `)`
-abbrev pub literals_listed : List (Bool × Name) → List Token
-literals_listed [] = Sign Close ∷ []
-literals_listed (m ∷ ms) = signed m.0 m.1 (literals_tail ms)
-
--- the word of a quantifier
-abbrev pub word_of : Quantifier → Keyword
-word_of All = words.Forall
-word_of Exists = words.Exists
-
--- The tokens of a line say this: `exists(a, b)`, `forall(a)`, `output(-g)`, `g = and(a, -b)`.
-abbrev pub Says : List Token → Statement → Type 0
-Says ts (SetOf q []) = ⊥
-Says ts (SetOf q (w ∷ ws)) = (word : Name) × (keyword_of word ≡ word_of q) × (ts ≡ Word word ∷ Sign Open ∷ Word w ∷ names_tail ws)
-Says ts (OutputOf negative w) =
-    (word : Name) × (keyword_of word ≡ words.Output) × (ts ≡ Word word ∷ Sign Open ∷ signed negative w (Sign Close ∷ []))
-Says ts (GateOf w kind ms) =
-    (word : Name) × (kind_of (keyword_of word) ≡ Ok kind) × (ts ≡ Word w ∷ Sign Equals ∷ Word word ∷ Sign Open ∷ literals_listed ms)
-
--- Lines say these statements one after the other, and between them nothing.
-abbrev pub Say : List (List ℕ) → List Statement → Type 0
-Say [] [] = Unit {0}
-Say [] (st ∷ sts) = ⊥
-Say (line ∷ lines) [] = SaysNothing (tokens line) × Say lines []
-Say (line ∷ lines) (st ∷ sts) = (SaysNothing (tokens line) × Say lines (st ∷ sts)) ⊎ (Says (tokens line) st × Say lines sts)
-
--- ---- names
-
--- one variable more
-abbrev pub bind_next : Quantifier → Result PartsSoFar QuestionFault → Name → Result PartsSoFar QuestionFault
-bind_next q (Err f) w = Err f
-bind_next q (Ok b) w = bound q b (with_name b.names w)
-
--- the variables of a set
-abbrev pub bind_all : Quantifier → Result PartsSoFar QuestionFault → List Name → Result PartsSoFar QuestionFault
-bind_all q r [] = r
-bind_all q r (w ∷ ws) = bind_all q (bind_next q r w) ws
-
--- the literals of names that are given
-abbrev pub all_named : List Name → List (Bool × Name) → Result (List Literal) QuestionFault
-all_named names [] = Ok []
-all_named names (m ∷ ms) = and_literal (literal_named names m.0 m.1) (all_named names ms)
-
--- A statement leads from one state to another: sets come before the output, and gates after it.
-abbrev pub Leads : State → Statement → State → Type 0
-Leads (InPrefix b) (SetOf q ws) t = (c : PartsSoFar) × (bind_all q (Ok b) ws ≡ Ok c) × (InPrefix c ≡ t)
-Leads (InPrefix b) (OutputOf negative w) t = InGates b negative w ≡ t
-Leads (InGates b negative v) (GateOf w kind ms) t =
-    (c : PartsSoFar) × (gate b w kind (all_named b.names ms) ≡ Ok c) × (InGates c negative v ≡ t)
-Leads s st t = ⊥
-
--- statements lead from one state to another, one after the other
-abbrev pub LeadAll : State → List Statement → State → Type 0
-LeadAll s [] t = s ≡ t
-LeadAll s (st ∷ sts) t = (next : State) × Leads s st next × LeadAll next sts t
-
--- The bytes spell the formula of gates: after the header their lines say statements that lead to its output.
+-- The bytes spell the formula of gates: after the header the lines that say something are its lines, but for blanks.
 pub record IsQuestion (bytes : List ℕ) (q : Question) : Type 0 where
-  pub first : List ℕ
-  pub lines : List (List ℕ)
-  pub split : slice_split is_line_end bytes ≡ first ∷ lines
-  pub header : is_header (tokens first) ≡ true
-  pub statements : List Statement
-  pub said : Say lines statements
-  pub last : State
-  pub lead : LeadAll AtPrefix statements last
-  pub result : result_at last ≡ Ok q
+  pub header : IsHeader (before_first is_line_end bytes)
+  -- its sets have variables, and neighbouring ones of one quantifier are one block
+  pub sets : List Block
+  pub filled : AllByRecursion (λ s. s.vars ≢ []) sets
+  pub blocks : q.formula.blocks ≡ blocks_of (pairs sets)
+  pub said : filter says_something (map runs (slice_split is_line_end (after_first is_line_end bytes))) ≡ map runs (lines_of sets q)
+  -- its names are words, each given once, and numbered in the order in which they are given
+  pub words : AllByRecursion (λ w. (w ≢ []) × AllByRecursion (λ b. is_word_byte b ≡ true) w) q.names
+  pub distinct : IsDistinct bytes_eq q.names
+  pub few : length q.names ≤ 2147483647
+  pub numbered : names q.formula ≡ range_with_len 1 (length q.names)
+  -- each input of a gate is of a name that is given before the gate, and the output of any name
+  pub order : AllByRecursion (λ g. AllByRecursion (λ l. (1 ≤ l.var) × (l.var < g.0)) (inputs_of g.1)) q.formula.gates
+  pub output : (1 ≤ q.formula.output.var) × (q.formula.output.var ≤ length q.names)

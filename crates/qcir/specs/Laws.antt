@@ -1,19 +1,15 @@
 -- What is read is the formula of gates that the bytes spell.
-use Rattle.std.specs.Prelude.{◌≡◌, ◌↔◌, ℕ, zero, suc, List, [], ◌∷◌, ◌++◌, length, Ok}
+use Rattle.std.specs.Prelude.{◌≡◌, ◌↔◌, ℕ, List, length, Ok}
+use Rattle.std.specs.List.{range_with_len}
 use Rattle.qbf_gates.specs.Gates.{IsWellFormed, names}
 use Rattle.qcir.specs.Grammar.{IsQuestion}
 use Rattle.qcir.specs.Reading.{Question, read_gates}
 use Rattle.qcir.specs.Texts.{text}
 
--- the numbers from 1 to n
-abbrev pub up_to : ℕ → List ℕ
-up_to zero = []
-up_to (suc n) = up_to n ++ suc n ∷ []
-
 -- what is read is well formed, and its variables and gates are numbered from 1 on, in the order of their names
 abbrev pub ReadsWellFormed : Type 0
 ReadsWellFormed = (bytes : List ℕ) (q : Question) → read_gates bytes ≡ Ok q
-    → IsWellFormed q.formula × (names q.formula ≡ up_to (length q.names))
+    → IsWellFormed q.formula × (names q.formula ≡ range_with_len 1 (length q.names))
 
 -- a formula of gates is read from bytes exactly if they spell it
 abbrev pub ReadsQuestions : Type 0

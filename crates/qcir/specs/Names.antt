@@ -5,12 +5,18 @@ use Rattle.qbf_core.specs.declared.quantifier.Quantifier.{Quantifier}
 use Rattle.qbf_core.specs.declared.quantifier.Quantifier.TheVariants.{Exists}
 use Rattle.qbf_core.specs.Blocks.{is_quantifier}
 use Rattle.qbf_core.specs.Literal.{Literal}
+use Rattle.qbf_gates.specs.Gates.{GateFormula}
 use Rattle.qcir.specs.declared.fault.QuestionFault.{QuestionFault}
 use Rattle.qcir.specs.declared.fault.QuestionFault.TheVariants.{Q4, Q5, Q10}
 
 -- a name: letters, digits and underscores
 abbrev pub Name : Type 0
 Name = List ℕ
+
+-- a formula of gates, and the names of its variables and gates: the name at place i is that of number i + 1
+pub record Question : Type 0 where
+  pub names : List Name
+  pub formula : GateFormula
 
 -- the names with one more
 abbrev pub with_name : List Name → Name → Result (List Name) QuestionFault

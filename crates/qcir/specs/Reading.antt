@@ -10,7 +10,7 @@ use Rattle.qbf_core.specs.Blocks.{blocks_of}
 use Rattle.qbf_tokens.specs.Tokens.{is_line_end}
 use Rattle.qbf_gates.specs.declared.kind.GateKind.{GateKind}
 use Rattle.qbf_gates.specs.declared.kind.GateKind.TheVariants.{Choice, Conjunction, Difference, Disjunction}
-use Rattle.qbf_gates.specs.Gates.{Gate, GateFormula}
+use Rattle.qbf_gates.specs.Gates.{Gate}
 use Rattle.qbf_gates.specs.Kept.{fits, gate_of}
 use Rattle.qcir_tokens.specs.declared.mark.Mark.TheVariants.{Close, Comma, Equals, Hash, Minus, Open}
 use Rattle.qcir_tokens.specs.Tokens.{Token, Word, Sign, tokens}
@@ -20,17 +20,13 @@ use Rattle.qcir.specs.declared.keyword.Keyword.{Keyword}
 use Rattle.qcir.specs.declared.keyword.Keyword.TheVariants as words
 use Rattle.qcir.specs.Words.{keyword_of}
 use Rattle.qcir.specs.Names.{Name, literal_named, with_name}
+pub use Rattle.qcir.specs.Names.{Question}
 
 -- the names that are given so far, the variables with their quantifiers, and the gates
 pub record PartsSoFar : Type 0 where
   pub names : List Name
   pub pairs : List (Quantifier × ℕ)
   pub gates : List (ℕ × Gate)
-
--- a formula of gates, and the names of its variables and gates: the name at place i is that of number i + 1
-pub record Question : Type 0 where
-  pub names : List Name
-  pub formula : GateFormula
 
 -- A state: the place of a line, by what the lines before it say.
 pub data State : Type 0 where

@@ -1,16 +1,20 @@
 -- The rest of the text of a formula of gates, which is still to be written.
-use Rattle.std.specs.Prelude.{ℕ, List, [], ◌∷◌, ◌++◌, map, Option, Some, None, if◌then◌else◌}
-use Rattle.std.specs.List.{flat_map}
+use Rattle.std.specs.Prelude.{ℕ, List, [], ◌∷◌, ◌++◌, Option, Some, None, if◌then◌else◌}
+use Rattle.std.specs.List.{flat_map, join_by}
 use Rattle.qbf_core.specs.declared.quantifier.Quantifier.{Quantifier}
 use Rattle.qbf_core.specs.Blocks.{Block, is_quantifier}
 use Rattle.qbf_core.specs.Literal.{Literal}
 use Rattle.qbf_gates.specs.Gates.{Gate}
 use Rattle.qcir.specs.Names.{Name}
-use Rattle.qcir.specs.Texts.{by_name, gate_of_name, line_text, name_of, plain, quantifier_text, rest_text, set_of, signed_text}
+use Rattle.qcir.specs.Texts.{gate_line, literal_text, name_of, quantifier_text, set_line}
 
 -- a literal by its name, after a comma and a blank
 abbrev pub input_text : List Name → Literal → List ℕ
-input_text names l = 44 ∷ 32 ∷ signed_text (by_name names l)
+input_text names l = 44 ∷ 32 ∷ literal_text names l
+
+-- literals in brackets, and the line end
+abbrev pub closed_text : List Name → List Literal → List ℕ
+closed_text names ls = 40 ∷ (join_by (literal_text names) (44 ∷ 32 ∷ []) ls ++ 41 ∷ 10 ∷ [])
 
 -- the word of a quantifier, and `(`
 abbrev pub set_opening : Quantifier → List ℕ
@@ -23,7 +27,7 @@ opening (Some r) q = if is_quantifier r q then 44 ∷ 32 ∷ [] else 41 ∷ 10 �
 
 -- the lines of blocks
 abbrev pub sets_text : List Name → List Block → List ℕ
-sets_text names bs = flat_map (λ b. line_text (set_of names b)) bs
+sets_text names bs = flat_map (λ b. set_line names b ++ 10 ∷ []) bs
 
 -- the text of the blocks that come after a variable: its set goes on if the first block has its quantifier
 abbrev pub blocks_rest : List Name → Option Quantifier → List Block → List ℕ
@@ -31,9 +35,9 @@ blocks_rest names None bs = sets_text names bs
 blocks_rest names (Some q) [] = 41 ∷ 10 ∷ []
 blocks_rest names (Some q) (b ∷ bs) =
     if is_quantifier q b.quantifier
-    then rest_text (map plain (map (name_of names) b.vars)) ++ 41 ∷ 10 ∷ sets_text names bs
+    then flat_map (λ v. 44 ∷ 32 ∷ name_of names v) b.vars ++ 41 ∷ 10 ∷ sets_text names bs
     else 41 ∷ 10 ∷ sets_text names (b ∷ bs)
 
 -- the lines of gates
 abbrev pub gates_text : List Name → List (ℕ × Gate) → List ℕ
-gates_text names gates = flat_map (λ g. line_text (gate_of_name names g)) gates
+gates_text names gates = flat_map (λ g. gate_line names g ++ 10 ∷ []) gates

@@ -9,11 +9,12 @@
 //! - Read first: the definition `IsQuestion`; `read_question`, `reading_laws`.
 //! - Tested only: the crate `gate_tests`: worked texts, each fault with its line, texts cut at each
 //!   place, sources and allocations that fail.
-//! - Trusted: `indexmap`.
+//! - Trusted: `indexmap`, `memchr`.
 #![tactic(auto)]
 
 mod fault;
 mod header;
+mod key;
 mod keyword;
 mod laws;
 mod lines;

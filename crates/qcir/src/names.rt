@@ -9,6 +9,7 @@ ghost use Rattle.qcir.specs.Outcomes.{LeadsTo};
 ghost use Rattle.qcir.specs.Texts.{name_at, name_of};
 
 use crate::fault::QuestionFault;
+use crate::key::Key;
 use indexmap::IndexSet;
 use qbf_core::{LAST_VARIABLE, Lit, Var};
 use std::alloc::{AllocError, Global};
@@ -19,7 +20,7 @@ use std::marker::Model;
 /// Contracts see the list of them.
 #[derive(Drop)]
 pub(crate) struct Names<'a> {
-    set: IndexSet<&'a [u8]>,
+    set: IndexSet<Key<'a>>,
 }
 
 impl<'a> Model for Names<'a> {
@@ -27,22 +28,22 @@ impl<'a> Model for Names<'a> {
 
     ghost Value = { List (List ℕ) };
 
-    ghost view = { λ n. map (λ k. k.now) n.set.keys };
+    ghost view = { λ n. map (λ k. k.name.now) n.set.keys };
 
     ghost invariant = { λ n. length n.set.keys ≤ 2147483647 };
 }
 
 /// Adds a name to a set, and says whether it is new. One that is there stays.
-fn insert<'a>(set: &mut IndexSet<&'a [u8]>, name: &'a [u8]) -> Result<bool, AllocError>
+fn insert<'a>(set: &mut IndexSet<Key<'a>>, name: &'a [u8]) -> Result<bool, AllocError>
     ensures new { IfOk result (λ b. b ≡ true
-        → (set.new.keys ≡ set.old.keys ++ name.entry ∷ [])
-        × (list_any (λ k. bytes_eq name.now k.now) set.old.keys ≡ false)) }
+        → (set.new.keys ≡ set.old.keys ++ (record { name = name.entry }) ∷ [])
+        × (list_any (λ k. bytes_eq name.now k.name.now) set.old.keys ≡ false)) }
     ensures given { IfOk result (λ b. b ≡ false
         → (set.new.keys ≡ set.old.keys)
-        × (list_any (λ k. bytes_eq name.now k.now) set.old.keys ≡ true)) }
+        × (list_any (λ k. bytes_eq name.now k.name.now) set.old.keys ≡ true)) }
     ensures err { OnErr result (set.new.keys ≡ set.old.keys) }
 {
-    match set.insert(name) {
+    match set.insert(Key { name }) {
         Ok(is_new) => Ok(is_new),
         Err(_) => Err(AllocError),
     }
@@ -71,7 +72,7 @@ impl<'a> Names<'a> {
         ensures place { result ≡ position (bytes_eq name.now) self.now }
         ensures few { IfSome result (λ i. i < 2147483647) }
     {
-        self.set.get_index_of(name)
+        self.set.get_index_of(&Key { name })
     }
 
     /// The name of a variable or a gate, if it is given.
@@ -79,7 +80,7 @@ impl<'a> Names<'a> {
         ensures { option_map (λ n. n.now) result ≡ name_at self.now var }
     {
         match self.set.get_index(var.number() as usize - 1) {
-            Some(name) => Some(*name),
+            Some(key) => Some(key.name),
             None => None,
         }
     }
@@ -89,7 +90,7 @@ impl<'a> Names<'a> {
         ensures { result.now ≡ name_of self.now number }
     {
         match self.set.get_index((number as usize).saturating_sub(1)) {
-            Some(name) => *name,
+            Some(key) => key.name,
             None => b"",
         }
     }

@@ -1,10 +1,9 @@
 //! Reading a text.
 
 ghost use Rattle.std.specs.Prelude.{◌≡◌, ◌+◌, ◌<◌, ◌≤◌, true, false, length, ◌∷◌, position, IfOk};
-ghost use Rattle.std.specs.List.{slice_split};
+ghost use Rattle.std.specs.List.{range_with_len, slice_split};
 ghost use Rattle.qbf_tokens.specs.Tokens.{is_line_end};
 ghost use Rattle.qbf_gates.specs.Gates.{IsWellFormed, names};
-ghost use Rattle.qcir.specs.Laws.{up_to};
 ghost use Rattle.qcir.specs.Outcomes.{Tells};
 ghost use Rattle.qcir.specs.Reading.{lines_left, read_gates};
 
@@ -12,14 +11,16 @@ use crate::fault::QuestionFault;
 use crate::header::is_header;
 use crate::question::Question;
 use crate::reader::Reader;
+use memchr::memchr;
 use qcir_tokens::Line;
 use std::alloc::Global;
 
 /// Where the first line of a text ends, if it has a line end.
+#[tactic(auto, using(crate::proofs::TextLines::found_end))]
 fn line_end(text: &[u8]) -> Option<usize>
     ensures { result ≡ position is_line_end text.now }
 {
-    text.iter().position(|byte| *byte == b'\n')
+    memchr(b'\n', text)
 }
 
 /// The first line of a text without its line end, what stands after that, and whether there is a
@@ -60,7 +61,7 @@ pub fn read_question<'a>(
     ensures reads { Tells (read_gates text.now) result }
     // It is well formed, and its variables and gates are numbered in the order of their names.
     ensures sound { IfOk result (λ q. IsWellFormed q.formula
-        × (names q.formula ≡ up_to (length q.names))) }
+        × (names q.formula ≡ range_with_len 1 (length q.names))) }
 {
     let (first, mut rest, mut more) = split_line(text);
     if !is_header(&mut Line::new(first)) {

@@ -1,12 +1,12 @@
 //! The canonical text of a formula of gates.
 
-ghost use Rattle.std.specs.Prelude.{◌≡◌, ◌++◌, map, ℕ, List, Ok};
+ghost use Rattle.std.specs.Prelude.{◌≡◌, ◌++◌, ℕ, List, Ok};
 ghost use Rattle.std.specs.List.{flat_map};
 ghost use Rattle.qbf_text.specs.Written.{IsPut};
 ghost use Rattle.qbf_gates.specs.Kept.{gate_of};
 ghost use Rattle.qcir.specs.Reading.{read_gates};
-ghost use Rattle.qcir.specs.Texts.{by_name, closed_text, kind_of_gate, kind_text, signed_text, text};
-ghost use Rattle.qcir.specs.Written.{gates_text, input_text, opening, set_opening, sets_text};
+ghost use Rattle.qcir.specs.Texts.{gate_word, literal_text, text};
+ghost use Rattle.qcir.specs.Written.{closed_text, gates_text, input_text, opening, set_opening, sets_text};
 
 use crate::names::Names;
 use crate::question::Question;
@@ -20,7 +20,7 @@ use qbf_text::{Sink, SinkFault, put_bytes};
 struct Signed<'q, 'a>(&'q Names<'a>, Lit);
 
 impl<'q, 'a> Put for Signed<'q, 'a> {
-    ghost text = { λ s. signed_text (by_name s.0.now s.1) };
+    ghost text = { λ s. literal_text s.0.now s.1 };
 
     fn put<K: Sink>(&self, sink: &mut K) -> Result<(), SinkFault> {
         let name = Bytes(self.0.name_or_empty(self.1.var()));
@@ -52,7 +52,7 @@ impl<'q, 'a> Put for Further<'q, 'a> {
 struct Closed<'q, 'a>(&'q Names<'a>, &'q [Lit]);
 
 impl<'q, 'a> Put for Closed<'q, 'a> {
-    ghost text = { λ c. closed_text (map (by_name c.0.now) c.1.now) };
+    ghost text = { λ c. closed_text c.0.now c.1.now };
 
     fn put<K: Sink>(&self, sink: &mut K) -> Result<(), SinkFault> {
         match self.1 {
@@ -115,7 +115,7 @@ impl<'q, 'a> Put for SetLines<'q, 'a> {
 
 /// The word of a gate of this kind, or `and` if it has more or fewer inputs than its kind.
 fn kind_word(kind: GateKind, inputs: &[Lit]) -> Bytes<'static>
-    ensures { result.0.now ≡ kind_text (kind_of_gate (gate_of kind inputs.now)) }
+    ensures { result.0.now ≡ gate_word (gate_of kind inputs.now) }
 {
     match kind {
         GateKind::Conjunction => Bytes(b"and"),

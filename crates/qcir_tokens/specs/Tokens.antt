@@ -1,18 +1,26 @@
 -- The tokens of a line of QCIR-14 (Jordan, Klieber, Seidl 2016): words and marks, with blanks between them or not.
-use Rattle.std.specs.Prelude.{◌≡◌, ℕ, Bool, ◌||◌, ◌==◌, if◌then◌else◌, List, [], ◌∷◌, ◌++◌}
+use Rattle.std.specs.Prelude.{◌≡◌, ℕ, Bool, ◌||◌, ◌&&◌, ◌==◌, if◌then◌else◌, List, [], ◌∷◌, map, slice_index}
 use Rattle.std.specs.Char.{is_ascii_alphanumeric}
+use Rattle.std.specs.List.{onto_first}
 use Rattle.qbf_tokens.specs.Tokens.{is_blank}
 use Rattle.qcir_tokens.specs.declared.mark.Mark.{Mark}
 use Rattle.qcir_tokens.specs.declared.mark.Mark.TheVariants.{Close, Comma, Equals, Hash, Minus, Open, Other}
+
+-- a letter, a digit or an underscore: the bytes of names
+abbrev pub is_word_byte : ℕ → Bool
+is_word_byte b = is_ascii_alphanumeric b || b == 95
+
+-- the runs of a line: words, as long as they can be, and each other byte by itself, but for blanks
+abbrev pub runs : List ℕ → List (List ℕ)
+runs [] = []
+runs (b ∷ bs) =
+    if is_blank b then runs bs
+    else (if is_word_byte b && is_word_byte (slice_index bs 0) then onto_first b (runs bs) else (b ∷ []) ∷ runs bs)
 
 -- a word: a name, a number, or a word of the format; or a mark
 pub data Token : Type 0 where
   Word : List ℕ → Token
   Sign : Mark → Token
-
--- a letter, a digit or an underscore: the bytes of names
-abbrev pub is_word_byte : ℕ → Bool
-is_word_byte b = is_ascii_alphanumeric b || b == 95
 
 -- the mark that a byte is
 abbrev pub mark_of : ℕ → Mark
@@ -25,23 +33,14 @@ mark_of b =
     else (if b == 35 then Hash
     else Other)))))
 
--- the word of these bytes, if there are any
-abbrev pub word : List ℕ → List Token
-word [] = []
-word (b ∷ bs) = Word (b ∷ bs) ∷ []
-
--- what a byte that is not of a word says: nothing if it is a blank, else a mark
-abbrev pub sign : ℕ → List Token
-sign b = if is_blank b then [] else Sign (mark_of b) ∷ []
-
--- the tokens of bytes after those of a word: words are as long as they can be
-abbrev pub tokens_after : List ℕ → List ℕ → List Token
-tokens_after w [] = word w
-tokens_after w (b ∷ bs) = if is_word_byte b then tokens_after (w ++ b ∷ []) bs else word w ++ (sign b ++ tokens_after [] bs)
+-- what a run is: a word, or the mark that its byte is
+abbrev pub token_of : List ℕ → Token
+token_of [] = Word []
+token_of (b ∷ bs) = if is_word_byte b then Word (b ∷ bs) else Sign (mark_of b)
 
 -- the tokens of a line
 abbrev pub tokens : List ℕ → List Token
-tokens line = tokens_after [] line
+tokens line = map token_of (runs line)
 
 -- the first token is not a word
 abbrev pub BeginsWithNoWord : List Token → Type 0

@@ -61,6 +61,7 @@ impl<'a> Line<'a> {
     }
 
     /// Takes the next token if it is this mark. Else nothing is taken.
+    #[inline(always)]
     pub fn take(&mut self, mark: Mark) -> bool
         ensures taken { result ≡ true → self.old ≡ Sign mark ∷ self.new }
         ensures left { result ≡ false → self.new ≡ self.old }

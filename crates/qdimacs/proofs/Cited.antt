@@ -1,6 +1,6 @@
 -- The names that the proofs cite most, passed on from one place. Declares nothing.
 pub use Rattle.qbf_core.proofs.BlockLaws.{Alternates-blocks_of, blocks_of-pairs, pairs-blocks_of}
-pub use Rattle.qbf_core.proofs.DistinctNumbers.{front_all, front_distinct, middle, new_number, push_distinct}
+pub use Rattle.lists.proofs.DistinctNumbers.{front_all, front_distinct, middle, new_number, push_distinct}
 pub use Rattle.qbf_core.specs.Blocks.{AreBound, IsPrefix, pairs_of_block, with_pair}
 pub use Rattle.qbf_core.specs.Qbf.{IsWellFormed}
 pub use Rattle.dimacs_syntax.proofs.CanonicalLines.{literals_plain, set_written}

@@ -1,5 +1,5 @@
 -- The names that the proofs cite most, passed on from one place. Declares nothing.
-pub use Rattle.qbf_core.proofs.DistinctNumbers.{new_number, push_distinct}
+pub use Rattle.lists.proofs.DistinctNumbers.{new_number, push_distinct}
 pub use Rattle.dimacs_syntax.proofs.CanonicalLines.{literals_plain, set_written}
 pub use Rattle.dimacs_syntax.proofs.Cited.{AllByRecursion, AllByRecursion-push, Block, IsSent, IsVariable, Lined, Literal, Qrp, Quantifier}
 pub use Rattle.dimacs_syntax.proofs.Cited.{Read, Token, ahead, flat_map, flat_map-append, flat_map-map, left, length-append, letter, literal}

@@ -7,7 +7,8 @@ ghost use Rattle.qrp.specs.States.{IsComplete, Stays};
 ghost use Rattle.step_index.specs.Numbers.{is_used, AreStepNumbers};
 
 use crate::states::{Lists, Part};
-use qbf_core::{GrowingLists, Var};
+use lists::GrowingLists;
+use qbf_core::Var;
 use std::alloc::{AllocError, Global};
 use step_index::StepIndex;
 use trace_items::{AntecedentPair, FlatSets, Header, StepLists};

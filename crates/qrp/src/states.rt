@@ -11,7 +11,8 @@ use crate::tokens::{
     FAULTS, FORM, ItemStart, decode_antecedent, decode_item_start, decode_outcome,
 };
 use dimacs_syntax::{HeaderAt, HeaderMove, decode_literal, decode_member, header_move};
-use qbf_core::{GrowingLists, LAST_VARIABLE, Lit, Quantifier, Var};
+use lists::GrowingLists;
+use qbf_core::{LAST_VARIABLE, Lit, Quantifier, Var};
 use qbf_text::Stop;
 use qbf_tokens::Token;
 use step_index::StepIndex;

@@ -13,7 +13,7 @@ use Rattle.qrp_check.specs.declared.verdict.Fault.TheVariants as proof
 use Rattle.qrp_check.specs.Checked.{SourceCall}
 use Rattle.qrp_winner.specs.declared.strategy.Strategy.{Strategy}
 use Rattle.gate_verify.specs.Checked.{IsChecked}
-use Rattle.gate_verify.specs.Faults.{IsOutOfMemory, IsQuestionDevice, IsTraceDevice}
+use Rattle.gate_verify.specs.Faults.{HasFailed, IsOutOfMemory}
 use Rattle.gate_verify.specs.Headline.{Headline}
 use Rattle.gate_verify.specs.Laws.{in_clauses}
 use Rattle.gate_verify.specs.Made.{AreClausesOf, AreMadeOf}
@@ -93,12 +93,15 @@ gates_memory_is_four (fault.Proof e) is = memory_is_four e is
 
 -- no device is read
 memory_alone : (rules : Rules) (a b : List ℕ) (e : Unverified) → IsChecked rules (lent_bytes a) (lent_bytes b) (Err e)
-    → IsOk {T = Bool} (Err e) ⊎ (IsOutOfMemory {V = Bool} (Err e) ⊎ (IsQuestionDevice {V = Bool} (Err e) ⊎ IsTraceDevice {V = Bool} (Err e)))
-    → IsOutOfMemory {V = Bool} (Err e)
+    → IsOk {T = Bool} (Err e) ⊎ HasFailed {V = Bool} (Err e) → IsOutOfMemory {V = Bool} (Err e)
 memory_alone rules a b e checked (inl is) = absurd (cc is)
-memory_alone rules a b e checked (inr (inl is)) = is
-memory_alone rules a b e checked (inr (inr (inl is))) = let less = (checked.question_failed (omega arith)).0 is in absurd (omega (arith, less))
-memory_alone rules a b e checked (inr (inr (inr is))) = let less = (checked.trace_failed (omega arith)).0 is in absurd (omega (arith, less))
+memory_alone rules a b (fault.Question g line) checked (inr (inl device)) =
+    let less = (checked.question_failed (omega arith)).0 device in absurd (omega (arith, less))
+memory_alone rules a b (fault.Question g line) checked (inr (inr memory)) = memory
+memory_alone rules a b fault.TooLong checked (inr none) = absurd none
+memory_alone rules a b (fault.Proof g) checked (inr (inl memory)) = memory
+memory_alone rules a b (fault.Proof g) checked (inr (inr device)) =
+    let less = (checked.trace_failed (omega arith)).0 device in absurd (omega (arith, less))
 
 pub gates_headline : (rules : Rules) (a b : List ℕ) (outcome : Result Bool Unverified) → Headline rules a b outcome
     → IsChecked rules (lent_bytes a) (lent_bytes b) outcome → GatesHeadline rules a b (checked_encoding outcome)

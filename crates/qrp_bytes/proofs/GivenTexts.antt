@@ -3,7 +3,7 @@ use Rattle.std.proofs.Common.{rules, Ok, Err, refl, ◌≡◌, Bool, ℕ, ◌+�
 use Rattle.std.proofs.lemmas.List.{map-append}
 use Rattle.std.proofs.lemmas.Option.{slice_get-get_or}
 use Rattle.std.specs.List.{AllByRecursion}
-use Rattle.qbf_core.proofs.DistinctNumbers.{all_at}
+use Rattle.lists.proofs.DistinctNumbers.{all_at}
 use Rattle.trace_items.specs.Derivations.{Derivation, steps_at}
 use Rattle.trace_items.specs.Inferences.{Inference, IsAt, numbers}
 use Rattle.qrp_rules.specs.declared.rules.Rules.{Rules}

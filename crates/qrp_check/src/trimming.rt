@@ -66,7 +66,7 @@ fn push_sets(alloc: Global, trace: &mut Trace, sets: &[QuantSet]) -> Result<(), 
 }
 
 /// Adds copies of the steps at some positions of a trace to another that has none.
-#[tactic(auto, using(trace_check::proofs::StepsAt::fresh_at, trace_check::proofs::StepsAt::next_at, trace_items::proofs::Positions::own_numbers, qbf_core::proofs::DistinctNumbers::all_at))]
+#[tactic(auto, using(trace_check::proofs::StepsAt::fresh_at, trace_check::proofs::StepsAt::next_at, trace_items::proofs::Positions::own_numbers, lists::proofs::DistinctNumbers::all_at))]
 fn push_steps(shorter: &mut Trace, trace: &Trace, positions: &[usize]) -> Result<(), AllocError>
     requires sound { IsWellFormed trace.now }
     requires empty { shorter.old.steps ≡ [] }

@@ -6,7 +6,7 @@ use Rattle.qbf_core.specs.Blocks.{IsVariable, variables}
 use Rattle.qbf_core.specs.Qbf.{IsWellFormed as IsWellFormedFormula}
 use Rattle.qbf_core.specs.Truth.{ResultHolds}
 use Rattle.qbf_core.proofs.Bound.{all_in, in_all, bound_in, pair_var}
-use Rattle.qbf_core.proofs.PushedItems.{pushed_new}
+use Rattle.lists.proofs.PushedItems.{pushed_new}
 use Rattle.qbf_tokens.specs.declared.token.Comments.TheVariants.{Qdimacs}
 use Rattle.qbf_tokens.specs.Lined.{without_lines}
 use Rattle.qbf_tokens.specs.Tokens.{tokens}

@@ -5,10 +5,10 @@ use Rattle.std.proofs.lemmas.Bool.Decides.{eqb_tells}
 use Rattle.std.proofs.lemmas.List.{map-append}
 use Rattle.std.specs.List.{IsDistinct, list_any}
 use Rattle.qbf_core.proofs.Bound.{all_in, bound_within}
-use Rattle.qbf_core.proofs.DistinctNumbers.{push_distinct}
+use Rattle.lists.proofs.DistinctNumbers.{push_distinct}
 use Rattle.qbf_core.proofs.Inferences.{resolvent_clean, resolvent_bound}
 use Rattle.qbf_core.proofs.Order.{clean_within}
-use Rattle.qbf_core.proofs.PushedItems.{pushed_old}
+use Rattle.lists.proofs.PushedItems.{pushed_old}
 use Rattle.trace_check.proofs.SetsAgree.{push_at}
 use Rattle.trace_check.specs.Unreduced.{FollowsUnreduced, unreduced_antecedents}
 use Rattle.qbf_completeness.specs.Derivations.{IsDerived, initial, reduced, resolved}

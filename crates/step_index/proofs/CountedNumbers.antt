@@ -9,7 +9,7 @@ use Rattle.std.proofs.lemmas.Map.Keys.{any_passes_from_place}
 use Rattle.step_index.specs.Numbers.{is_used, count_from, AreStepNumbers}
 use Rattle.step_index.specs.NumberSets.{HasBit}
 use Rattle.step_index.specs.Sparse.{AreFound}
-use Rattle.qbf_core.proofs.DistinctNumbers.{push_distinct, all_at}
+use Rattle.lists.proofs.DistinctNumbers.{push_distinct, all_at}
 use Rattle.std.specs.List.{AllByRecursion}
 
 pub count_length : (f n : ℕ) (ks : List ℕ) → length (count_from f n ++ ks) ≡ n + length ks

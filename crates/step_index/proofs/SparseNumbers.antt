@@ -3,12 +3,12 @@ use Rattle.std.proofs.Common.{rules, ◌≡◌, ℕ, ◌<◌, ◌≤◌, List, [
 use Rattle.std.proofs.Common.{slice_get, cond, nat_eq, arith, max, eq-eqb, ne_eqb, length-append}
 use Rattle.std.specs.Prelude.{◌↔◌, ◌⊎◌}
 use Rattle.std.specs.List.{AllByRecursion}
-use Rattle.qbf_core.proofs.PrefixLaws.{AllByRecursion-push}
+use Rattle.lists.proofs.PushedItems.{AllByRecursion-push}
 use Rattle.std.specs.Map.{lookup}
 use Rattle.std.proofs.lemmas.Bool.{cases_eq}
 use Rattle.step_index.specs.NumberSets.{HasBit}
 use Rattle.step_index.specs.Sparse.{AreFound, IsFar}
-use Rattle.qbf_core.proofs.PushedItems.{pushed_cases, pushed_old, pushed_new}
+use Rattle.lists.proofs.PushedItems.{pushed_cases, pushed_old, pushed_new}
 
 -- ---- no number is greater than the greatest
 

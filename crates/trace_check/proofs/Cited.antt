@@ -3,7 +3,8 @@ pub use Rattle.core_walk.specs.Conditions.{IsNumberOf, StepFollows, antecedent_c
 pub use Rattle.core_walk.specs.Core.{IsGoal, IsInCore, ListsCore, Needs, goal, next}
 pub use Rattle.core_walk.specs.Marks.{IsMarked}
 pub use Rattle.qbf_core.proofs.Bound.{bound_each}
-pub use Rattle.qbf_core.proofs.Members.{append_left, append_right, at_place, in_append, in_push, in_take, push_in, take_in}
+pub use Rattle.lists.proofs.PushedItems.{at_place}
+pub use Rattle.qbf_core.proofs.Members.{append_left, append_right, in_append, in_push, in_take, push_in, take_in}
 pub use Rattle.qbf_core.specs.Blocks.{AreBound, Block, IsBound, pairs, pairs_of_block}
 pub use Rattle.qbf_core.specs.Literal.{Literal}
 pub use Rattle.qbf_core.specs.Members.{◌∈◌, ◌⊆◌}

@@ -1,7 +1,7 @@
 -- The marked positions, listed from the first on.
 use Rattle.trace_check.proofs.Cited.{◌≡◌, ℕ, ◌+◌, ◌<◌, Bool, List, [], ◌∷◌, ◌++◌, inl, inr, sym, subst, length, IsMarked, ListsMarked}
 use Rattle.trace_check.proofs.Cited.{Some, arith, rules, slice_get, slice_get_within, cases_eq}
-use Rattle.qbf_core.proofs.PushedItems.{pushed_cases, pushed_old, pushed_new}
+use Rattle.lists.proofs.PushedItems.{pushed_cases, pushed_old, pushed_new}
 
 pub listing_none : (marks : List Bool) → ListsMarked marks 0 []
 listing_none marks = search rules

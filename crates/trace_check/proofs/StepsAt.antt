@@ -8,7 +8,7 @@ use Rattle.std.specs.List.Sorted.{IsStrictlyIncreasing}
 use Rattle.std.proofs.lemmas.Bool.{ne_eqb}
 use Rattle.std.proofs.lemmas.List.Elements.{filter_map-append}
 use Rattle.std.proofs.lemmas.List.Kept.{AllPairs-from_increasing}
-use Rattle.qbf_core.proofs.DistinctNumbers.{all_at}
+use Rattle.lists.proofs.DistinctNumbers.{all_at}
 use Rattle.step_index.specs.Numbers.{is_used}
 use Rattle.core_walk.proofs.Marking.{core_within}
 

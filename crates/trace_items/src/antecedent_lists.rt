@@ -5,7 +5,7 @@ ghost use Rattle.std.specs.Prelude.{length, take, slice_get, false, IfSome, IsTr
 ghost use Rattle.trace_items.specs.Antecedents.{list_of_pair, list_of_word, listed};
 
 use crate::antecedents::{AntecedentPair, Antecedents};
-use qbf_core::GrowingLists;
+use lists::GrowingLists;
 use std::alloc::{AllocError, Global};
 use std::marker::Model;
 

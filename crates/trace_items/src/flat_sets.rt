@@ -5,7 +5,8 @@ ghost use Rattle.std.specs.Prelude.{IfOk, OnOk, OnErr};
 ghost use Rattle.qbf_core.specs.Blocks.{Block};
 
 use crate::item::QuantSet;
-use qbf_core::{GrowingLists, Quantifier, Var};
+use lists::GrowingLists;
+use qbf_core::{Quantifier, Var};
 use std::alloc::{AllocError, Global};
 use std::marker::Model;
 

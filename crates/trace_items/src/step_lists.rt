@@ -5,7 +5,8 @@ ghost use Rattle.trace_items.specs.StepLists.{no_lists, with_lists, without_last
 
 use crate::antecedent_lists::{AntecedentLists, AntecedentWords};
 use crate::antecedents::AntecedentPair;
-use qbf_core::{GrowingLists, Lit, PackedLists};
+use lists::GrowingLists;
+use qbf_core::{Lit, PackedLists};
 use std::alloc::{AllocError, Global};
 use std::marker::Model;
 

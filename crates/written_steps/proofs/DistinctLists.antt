@@ -2,7 +2,7 @@
 use Rattle.qrp_rules.proofs.Cited.{rules, ◌≡◌, ◌⊎◌, ◌++◌, [], ◌∷◌, Literal, ◌∈◌, ◌⊆◌, Result}
 use Rattle.written_steps.proofs.Cited.{Has, Members, AreAmong}
 use Rattle.std.specs.Prelude.{⊤, OnOk, OnErr}
-use Rattle.qbf_core.specs.Lists.{Growing}
+use Rattle.lists.specs.Lists.{Growing}
 use Rattle.qbf_core.proofs.Members.{in_push, push_in}
 
 abbrev among : Literal → Growing Literal → Type 0

@@ -12,7 +12,7 @@ use Rattle.std.specs.Prelude.{⊤, IfOk, IsTrue, OnOk, OnErr}
 use Rattle.std.specs.List.{swap_remove}
 use Rattle.std.proofs.lemmas.List.{length_push}
 use Rattle.written_steps.specs.Watches.{IsTakenOut, IsWatchedIf, KeepsWatches}
-use Rattle.qbf_core.proofs.PushedItems.{pushed_new, pushed_old, written_here, written_elsewhere}
+use Rattle.lists.proofs.PushedItems.{pushed_new, pushed_old, written_here, written_elsewhere}
 use Rattle.std.proofs.lemmas.List.Elements.{Contains-push_cases}
 
 -- the list that is read at the position of a literal's list is that list

@@ -7,7 +7,8 @@ ghost use Rattle.qbf_core.specs.Sets.{HasMembersOf};
 ghost use Rattle.written_steps.specs.Seen.{AreAmong};
 
 use crate::seen::SeenLits;
-use qbf_core::{GrowingLists, Lit};
+use lists::GrowingLists;
+use qbf_core::Lit;
 use std::alloc::AllocError;
 
 /// Adds a literal to the unfinished list, unless it was seen there.

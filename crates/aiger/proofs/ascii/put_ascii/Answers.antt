@@ -1,4 +1,4 @@
-use Rattle.qbf_core.proofs.Cited.{rules}
+use Rattle.std.proofs.Common.{rules}
 use Rattle.qbf_text.proofs.SentParts.{part_fails, part_then}
 use Rattle.aiger.proofs.ascii.put_ascii.Goals as goal
 

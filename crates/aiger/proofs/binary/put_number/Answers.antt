@@ -1,4 +1,4 @@
-use Rattle.qbf_core.proofs.Cited.{arith}
+use Rattle.std.proofs.Common.{arith}
 use Rattle.qbf_text.proofs.SentParts.{sent_fails, sent_last, sent_part}
 use Rattle.aiger.proofs.BinaryNumbers.{groups_last, groups_next, groups_none, sent_all}
 use Rattle.aiger.proofs.binary.put_number.Goals as goal

@@ -1,4 +1,4 @@
-use Rattle.qbf_core.proofs.Cited.{◌∙◌, ap, length, subst}
+use Rattle.std.proofs.Common.{◌∙◌, ap, length, subst}
 use Rattle.qbf_text.proofs.SentParts.{part_fails, part_then}
 use Rattle.qbf_text.specs.Written.{IsPut}
 use Rattle.aiger.specs.Circuits.{Circuit}

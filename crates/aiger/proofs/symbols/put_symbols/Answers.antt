@@ -1,4 +1,4 @@
-use Rattle.qbf_core.proofs.Cited.{◌∙◌, ap, refl, subst}
+use Rattle.std.proofs.Common.{◌∙◌, ap, refl, subst}
 use Rattle.qbf_text.proofs.SentParts.{part_fails, part_then}
 use Rattle.qbf_text.specs.Written.{IsPut}
 use Rattle.aiger.specs.Circuits.{Circuit}

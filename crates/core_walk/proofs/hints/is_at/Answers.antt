@@ -1,7 +1,7 @@
 use Rattle.std.proofs.lemmas.Grind.{common_steps}
 use Rattle.std.proofs.Common.{sym, ◌∙◌, arith}
 use Rattle.std.proofs.lemmas.Bool.{eqb-true}
-use Rattle.qbf_core.proofs.Members.{at_place}
+use Rattle.lists.proofs.PushedItems.{at_place}
 use Rattle.core_walk.proofs.hints.is_at.Goals as goal
 
 pub returns-then-position-len-clause-found : goal.returns-then-position-len-clause-found

@@ -1,5 +1,5 @@
 use Rattle.trace_check.proofs.Cited.{◌↔◌, ◌∙◌, [], Block, Inference, List, Literal, ap, subst}
-use Rattle.qbf_core.specs.Lists.{Growing}
+use Rattle.lists.specs.Lists.{Growing}
 use Rattle.qbf_core.specs.Rules.{IsReducible}
 use Rattle.qrp_rules.specs.Walks.{TakesOut}
 use Rattle.proof_decisions.specs.Removing.{AddsUnlessIdle, HasJust, RemovesAll}

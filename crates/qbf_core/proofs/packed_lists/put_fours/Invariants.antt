@@ -1,4 +1,4 @@
-use Rattle.qbf_core.proofs.Cited.{◌≤◌, ◌≡◌, ◌++◌, length, AllByRecursion}
+use Rattle.qbf_core.proofs.Cited.{◌≡◌, ◌++◌, length}
 use Rattle.std.specs.Int.{w32}
 use Rattle.qbf_core.specs.Packed.{packed}
 use Rattle.qbf_core.proofs.packed_lists.put_fours.Given as goal

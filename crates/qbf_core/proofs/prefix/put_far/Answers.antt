@@ -1,5 +1,6 @@
 use Rattle.qbf_core.proofs.Cited.{◌≡◌, ◌∙◌, None, sym, ap, subst, arith, is_some, nat_eq, lookup, IsVariable, FitsTable}
-use Rattle.qbf_core.proofs.PrefixLaws.{added, AllByRecursion-push}
+use Rattle.lists.proofs.PushedItems.{AllByRecursion-push}
+use Rattle.qbf_core.proofs.PrefixLaws.{added}
 use Rattle.qbf_core.proofs.TableLaws.{beyond_added}
 use Rattle.qbf_core.proofs.prefix.put_far.Goals as goal
 

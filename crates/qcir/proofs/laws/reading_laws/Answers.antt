@@ -1,6 +1,5 @@
 use Rattle.qcir.proofs.Sound.{reads_well_formed}
-use Rattle.qcir.proofs.Spelled.{reads_questions}
-use Rattle.qcir.proofs.WrittenStatements.{reads_back}
+use Rattle.qcir.proofs.Spelled.{reads_back, reads_questions}
 use Rattle.qcir.proofs.laws.reading_laws.Goals as goal
 
 pub returns : goal.returns

@@ -1,8 +1,8 @@
 use Rattle.std.proofs.Common.{ap, ◌∙◌}
 use Rattle.qbf_gates.specs.Gates.{GateFormula}
 use Rattle.qbf_text.proofs.SentParts.{part_fails, part_then}
+use Rattle.qcir.proofs.Spelled.{reads_back}
 use Rattle.qcir.proofs.WrittenParts.{text_of}
-use Rattle.qcir.proofs.WrittenStatements.{reads_back}
 use Rattle.qcir.proofs.writing.write_question.Goals as goal
 
 pub returns-in_err-put-clause-put : goal.returns-in_err-put-clause-put

@@ -1,4 +1,4 @@
-use Rattle.qbf_core.proofs.Cited.{arith}
+use Rattle.std.proofs.Common.{arith}
 use Rattle.qbf_text.proofs.SentParts.{sent_fails, sent_part}
 use Rattle.aiger.proofs.WrittenLines.{inputs_next}
 use Rattle.aiger.proofs.ascii.InputLinesPut.put.Goals as goal

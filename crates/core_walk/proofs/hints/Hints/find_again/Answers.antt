@@ -1,5 +1,5 @@
 use Rattle.std.proofs.Common.{sym, ◌∙◌, arith}
-use Rattle.qbf_core.proofs.Members.{at_place}
+use Rattle.lists.proofs.PushedItems.{at_place}
 use Rattle.core_walk.proofs.hints.Hints.find_again.Goals as goal
 
 pub returns-then-number : goal.returns-then-number

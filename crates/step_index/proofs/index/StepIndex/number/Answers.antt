@@ -1,6 +1,6 @@
 use Rattle.std.proofs.Common.{◌<◌, ◌+◌, ◌^◌, ℕ, arith, ◌++◌}
 use Rattle.step_index.specs.Numbers.{count_from}
-use Rattle.qbf_core.proofs.DistinctNumbers.{all_at}
+use Rattle.lists.proofs.DistinctNumbers.{all_at}
 use Rattle.step_index.proofs.CountedNumbers.{front_at}
 use Rattle.step_index.proofs.index.StepIndex.number.Goals as goal
 

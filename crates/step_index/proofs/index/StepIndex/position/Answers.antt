@@ -3,7 +3,7 @@ use Rattle.std.proofs.Common.{nat_eq, ◌≡◌, ℕ, Some, ap, slice_get, ◌++
 use Rattle.std.specs.List.{IsDistinct}
 use Rattle.std.proofs.lemmas.Option.{slice_get_within}
 use Rattle.step_index.specs.Numbers.{count_from}
-use Rattle.qbf_core.proofs.DistinctNumbers.{one_place}
+use Rattle.lists.proofs.DistinctNumbers.{one_place}
 use Rattle.step_index.proofs.CountedNumbers.{front_at, sparse_at}
 use Rattle.step_index.proofs.index.StepIndex.position.Goals as goal
 

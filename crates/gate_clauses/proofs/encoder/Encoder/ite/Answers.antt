@@ -1,9 +1,0 @@
-use Rattle.qbf_gates.specs.Gates.{Ite}
-use Rattle.gate_clauses.proofs.Encoded.{bound_gate}
-use Rattle.gate_clauses.proofs.encoder.Encoder.ite.Goals as goal
-
-pub invariant_of-self : goal.invariant_of-self
-invariant_of-self c =
-    bound_gate c.self.inside.prefix c.bind_gate.new.prefix c.args.var (Ite c.args.a c.args.b c.args.c) c.self.inside.clauses.whole
-    c.put_ite.new.clauses.whole c.in_ok-bind_gate.ensures.pushed c.in_ok-put_ite.ensures c.self.invariant
-    c.in_ok-bind_gate.ensures.known

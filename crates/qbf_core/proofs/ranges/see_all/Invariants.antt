@@ -1,5 +1,0 @@
-use Rattle.qbf_core.proofs.Cited.{take, AllByRecursion}
-use Rattle.qbf_core.proofs.ranges.see_all.Given as goal
-
-abbrev pub invariant-loop-item : goal.invariant-loop-item
-invariant-loop-item g l = record { seen : AllByRecursion g.T.InRange.range (take l.item-index l.items) }
