@@ -66,7 +66,7 @@ enum qrp_status {
     QRP_VERIFIED = 0,      /* the trace proves its result, and `truth` is that of the formula */
     QRP_PROOF_REFUSED = 1, /* both texts are read, and the trace does not prove its result */
     QRP_TEXT_REFUSED = 2,  /* the text of the formula or of the trace is refused */
-    QRP_NO_MEMORY = 4      /* out of memory: nothing is known; or, with Q12, a formula of gates has too many clauses */
+    QRP_NO_MEMORY = 4      /* out of memory: nothing is known; or, with Q13, a formula of gates has too many clauses */
 };
 
 /* What was found. It needs no value before a call, which writes each field. A struct of zeros is not a verdict: its letter is not 'V'. */
@@ -140,7 +140,7 @@ size_t qrp_strategy(const void *formula, size_t formula_length, const void *trac
                     char *buffer, size_t room, struct qrp_verdict *out) QRP_NONNULL(9);
 
 /* Formulas of gates, in QCIR-14, as the program `qrp_gates` takes them. A trace is one of the clauses that qrp_gates_clauses writes. A fault of
- * the formula's text is Q2 to Q11; Q12, with the status QRP_NO_MEMORY, says that it has more than the 2147483647 clauses that QDIMACS can
+ * the formula's text is Q2 to Q12; Q13, with the status QRP_NO_MEMORY, says that it has more than the 2147483647 clauses that QDIMACS can
  * count. */
 
 /* Checks the trace against the clauses of the formula of gates, as `qrp_gates check` does, and else does as qrp_verify. */

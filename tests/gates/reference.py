@@ -26,6 +26,10 @@ class Line:
     def refuse(self, fault: str) -> Refused:
         return Refused(fault, self.number)
 
+    def gives(self, name: bytes) -> bool:
+        """Whether it is the line of a gate of this name."""
+        return self.tokens[:2] == [(name, b"", b""), (b"", b"=", b"")]
+
     def is_done(self) -> bool:
         return self.at == len(self.tokens)
 
@@ -59,7 +63,8 @@ class Line:
 class Formula:
     """What the lines so far say: the blocks, the names with their numbers, the clauses, and the output, once it was read."""
 
-    def __init__(self) -> None:
+    def __init__(self, lines: list[bytes]) -> None:
+        self.lines = lines
         self.blocks: list[tuple[str, list[int]]] = []
         self.numbers: dict[bytes, int] = {}
         self.clauses: list[list[int]] = []
@@ -78,7 +83,8 @@ class Formula:
     def literal(self, line: Line) -> int:
         sign, name = line.signed()
         if name not in self.numbers:
-            raise line.refuse("Q5")
+            is_later = any(Line(text, number).gives(name) for number, text in enumerate(self.lines, 1) if number >= line.number)
+            raise line.refuse("Q5" if is_later else "Q12")
         return sign * self.numbers[name]
 
     def read_prefix(self, line: Line) -> None:
@@ -134,7 +140,7 @@ def clauses(text: bytes) -> bytes:
     lines = text.split(b"\n")
     if not re.fullmatch(rb"[ \t\r]*#[ \t\r]*QCIR[ \t\r]*-[ \t\r]*G?14(?:[ \t\r]+[0-9]+)?[ \t\r]*", lines[0]):
         raise Refused("Q2", 1)
-    formula, line = Formula(), Line(b"", 1)
+    formula, line = Formula(lines), Line(b"", 1)
     for number, one in enumerate(lines[1:], 2):
         line = Line(one, number)
         if line.is_done() or line.take(b"#"):
@@ -147,7 +153,7 @@ def clauses(text: bytes) -> bytes:
         raise Refused("Q9", len(lines))
     sign, name = formula.output
     if name not in formula.numbers:
-        raise Refused("Q5", len(lines))
+        raise Refused("Q12", len(lines))
     rows: list[Any] = [[letter, *block] for letter, block in formula.blocks]
     rows += [*formula.clauses, [sign * formula.numbers[name]]]
     header = f"p cnf {len(formula.numbers)} {len(formula.clauses) + 1}\n"

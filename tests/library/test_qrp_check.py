@@ -237,7 +237,7 @@ class TooManyClauses:
     def __getattr__(self, name: str) -> Callable[..., int]:
         def call(*words: Any) -> int:
             found = words[-1]._obj
-            found.status, found.letter, found.number = 4, ord("Q"), 12
+            found.status, found.letter, found.number = 4, ord("Q"), 13
             return 4 if name == "qrp_gates_verify" else 0
 
         return call
@@ -293,7 +293,7 @@ def struct_of(fault: Any) -> Any:
     rule = number if letter == "S" else 0
     letter, number = ("C", 6) if rule else (letter, number)
     device = letter in "FPQ" and number == 1
-    memory = (letter, number) in (("F", 9), ("P", 9), ("C", 5), ("Q", 11), ("Q", 12))
+    memory = (letter, number) in (("F", 9), ("P", 9), ("C", 5), ("Q", 11), ("Q", 13))
     position = 0 if device or memory or (letter, number) == ("C", 4) else 1
     return qrp_check._Verdict(position=position, status=status_of(letter, device, memory), truth=0, letter=ord(letter), number=number, rule=rule)
 
@@ -316,7 +316,7 @@ def sentence_of(fault: Any) -> Any:
 def meanings() -> list[Any]:
     """Whether each fault has the sentence that tests/meanings.tsv has for it, and each name stands there once."""
     rows = [line.split("\t") for line in (ROOT / "tests" / "meanings.tsv").read_text().splitlines()]
-    names = [f"{letter}{number}" for letter, last in (("F", 9), ("P", 9), ("C", 5), ("S", 12), ("Q", 12)) for number in range(1, last + 1)]
+    names = [f"{letter}{number}" for letter, last in (("F", 9), ("P", 9), ("C", 5), ("S", 12), ("Q", 13)) for number in range(1, last + 1)]
     wrong = [f"{fault}: {sentence_of(fault)}" for fault, wanted in rows[1:] if sentence_of(fault) != wanted]
     for line in wrong:
         print(f"FAILED: the sentence of {line}")

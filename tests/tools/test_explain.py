@@ -727,9 +727,11 @@ GATES = [
     (
         "with a gate before its inputs",
         b"exists(a)\noutput(g)\ng = and(a, -h)\nh = or(a)\n",
-        ["No line before gives the name 'h'.", "put the gate before"],
+        ["No line before gives the name 'h', but line 5 does.", "put the gate before"],
     ),
-    ("with an output that is nowhere", b"exists(a)\noutput(g)\n", ["The text ends, and no line gives the output 'g'.", "put the gate before"]),
+    ("with a gate that is its own input", b"exists(a)\noutput(g)\ng = and(g)\n", ["the name 'g', but line 4 does.", "put the gate before"]),
+    ("with a variable that is nowhere", b"exists(a)\noutput(g)\ng = and(a, b)\n", ["No line gives the name 'b'.", "bind the variable"]),
+    ("with an output that is nowhere", b"exists(a)\noutput(g)\n", ["The text ends, and no line gives the output 'g'.", "define the gate"]),
     ("with free variables", b"free(a)\noutput(a)\n", ["Free variables: a closed formula has none.", "bind them in a set"]),
     ("with a gate that has a quantifier", b"exists(a)\noutput(g)\ng = exists(b; a)\n", ["has to be prenex", "write the formula in prenex form"]),
     ("with a choice of two", b"exists(a)\noutput(g)\ng = ite(a, a)\n", ["Ite has 3 inputs, and here it has 2.", "give `xor` two inputs"]),

@@ -41,6 +41,9 @@ WRONG = [
     ("and(sum", "exists(sum"),
     ("xor(a, 7)", "xor(a)"),
     ("-b, h_1)", "-b)"),
+    ("sum = xor(a, 7)\nboth = and(sum, h_0, -h_1)", "both = and(sum, h_0, -h_1)\nsum = xor(a, 7)"),
+    ("ite(both, -b, h_1)", "ite(ok, -b, h_1)"),
+    ("ite(both, -b, h_1)", "ite(both, -c, ok)"),
 ]
 
 
@@ -183,7 +186,7 @@ def try_damaged(use: Use) -> None:
     for data, (status, _, said) in zip(damaged, answers):
         expect(f"a damaged text: {data[:60]!r}", said == said_of(data) and status == (2 if said else 0), (data, said, said_of(data)))
     kinds = {answer[2].split()[2] for answer in answers if answer[2]}
-    expect("they are refused in many ways", kinds == {"Q2", "Q3", "Q4", "Q5", "Q6", "Q7", "Q8", "Q9"}, kinds)
+    expect("they are refused in many ways", kinds == {"Q2", "Q3", "Q4", "Q5", "Q6", "Q7", "Q8", "Q9", "Q12"}, kinds)
 
 
 def try_tools(use: Use) -> None:
@@ -242,7 +245,7 @@ def try_tools(use: Use) -> None:
     )
     ended = use.tool("explain", "--json", use.file("bad.qcir", BITS.replace("both)", "bath)").replace("ite(both", "ite(bath")), trace)
     found = json.loads(ended[1]) if ended[0] == 0 else {}
-    expect("explain: a fault as JSON", (found.get("fault"), found.get("line"), found.get("column")) == ("Q5", 8, 10), ended)
+    expect("explain: a fault as JSON", (found.get("fault"), found.get("line"), found.get("column")) == ("Q12", 8, 10), ended)
     ended = use.tool("explain", "--mend", question)
     expect("explain --mend", ended[0] == 2 and "--mend are for formulas in QDIMACS" in ended[2], ended)
     try_checks(use, question, clauses, trace, damaged, line)

@@ -1,15 +1,15 @@
 -- The fault of a refusal of a formula of gates, by its number.
 use Rattle.std.proofs.Common.{rules, ◌≡◌, ◌⊎◌, ℕ, zero, suc, ◌≤◌, inl, inr, refl, arith, sym, subst}
 use Rattle.qcir.specs.declared.fault.QuestionFault.{QuestionFault}
-use Rattle.qcir.specs.declared.fault.QuestionFault.TheVariants.{Q1, Q2, Q3, Q4, Q5, Q6, Q7, Q8, Q9, Q10, Q11}
+use Rattle.qcir.specs.declared.fault.QuestionFault.TheVariants.{Q1, Q2, Q3, Q4, Q5, Q6, Q7, Q8, Q9, Q10, Q11, Q12}
 use Rattle.gate_report.specs.declared.refusal.GateRefusal.{GateRefusal}
 use Rattle.gate_report.specs.Refusals.{IsOfGates, question_number, question_refusal}
 
--- by its number and its line, a refusal is that of a fault: Q1 to Q11, or 12 on no line
+-- by its number and its line, a refusal is that of a fault: Q1 to Q12, or 13 on no line
 abbrev pub HasNumber : GateRefusal → Type 0
-HasNumber r = ((1 ≤ r.number) × (r.number ≤ 11)) ⊎ ((r.number ≡ 12) × (r.line ≡ 0))
+HasNumber r = ((1 ≤ r.number) × (r.number ≤ 12)) ⊎ ((r.number ≡ 13) × (r.line ≡ 0))
 
-question_of : (n : ℕ) → 1 ≤ n → n ≤ 11 → (e : QuestionFault) × (question_number e ≡ n)
+question_of : (n : ℕ) → 1 ≤ n → n ≤ 12 → (e : QuestionFault) × (question_number e ≡ n)
 question_of (suc zero) low high = (Q1, refl)
 question_of (suc (suc zero)) low high = (Q2, refl)
 question_of (suc (suc (suc zero))) low high = (Q3, refl)
@@ -21,6 +21,7 @@ question_of (suc (suc (suc (suc (suc (suc (suc (suc zero)))))))) low high = (Q8,
 question_of (suc (suc (suc (suc (suc (suc (suc (suc (suc zero))))))))) low high = (Q9, refl)
 question_of (suc (suc (suc (suc (suc (suc (suc (suc (suc (suc zero)))))))))) low high = (Q10, refl)
 question_of (suc (suc (suc (suc (suc (suc (suc (suc (suc (suc (suc zero))))))))))) low high = (Q11, refl)
+question_of (suc (suc (suc (suc (suc (suc (suc (suc (suc (suc (suc (suc zero)))))))))))) low high = (Q12, refl)
 question_of n low high = absurd (omega (arith, low, high))
 
 pub fault_of : (r : GateRefusal) → HasNumber r → IsOfGates r

@@ -11,7 +11,7 @@ abbrev pub gate_line : GateRefusal → List ℕ
 gate_line r =
     if nat_eq r.number 1 then line (codes "DEVICE formula")
     else (if nat_eq r.number 11 then line (codes "NO MEMORY")
-    else (if nat_eq r.number 12 then line (codes "NO CLAUSES")
+    else (if nat_eq r.number 13 then line (codes "NO CLAUSES")
     else numbers_line (codes "REFUSED formula Q") r.number (codes " line ") r.line))
 
 -- the line for why no formula of gates was verified: the text, the number of clauses or the proof

@@ -21,7 +21,7 @@ pub fn put_gate_refusal<S: Sink>(sink: &mut S, refusal: &GateRefusal) -> Result<
     match refusal.number {
         1 => put_bytes(sink, b"DEVICE formula\n"),
         11 => put_bytes(sink, b"NO MEMORY\n"),
-        12 => put_bytes(sink, b"NO CLAUSES\n"),
+        13 => put_bytes(sink, b"NO CLAUSES\n"),
         number => put_numbers_line(
             sink,
             (b"REFUSED formula Q", number as u64),

@@ -9,7 +9,7 @@ use qcir::QuestionFault;
 /// Why a formula of gates was refused, as data: `Q5` of line 4 is number 5 with line 4.
 #[derive(Clone, Copy, Debug, PartialEq, Eq)]
 pub struct GateRefusal {
-    /// The number of the fault, as 5 of Q5; 12 if there are more clauses than QDIMACS can count.
+    /// The number of the fault, as 5 of Q5; 13 if there are more clauses than QDIMACS can count.
     pub number: u8,
     /// The line of a fault of the text, else 0.
     pub line: u64,
@@ -38,7 +38,7 @@ impl GateRefusal {
         ensures { result ≡ too_long }
     {
         GateRefusal {
-            number: 12,
+            number: 13,
             line: 0,
         }
     }
@@ -50,18 +50,18 @@ impl GateRefusal {
     {
         match self.number {
             1 => 3,
-            11 | 12 => 4,
+            11 | 13 => 4,
             _ => 2,
         }
     }
 
-    /// Whether it is the refusal of some fault: Q1 to Q11, or that there are too many clauses.
+    /// Whether it is the refusal of some fault: Q1 to Q12, or that there are too many clauses.
     pub fn is_of_fault(&self) -> bool
         ensures { IsTrue result ↔ IsOfGates self.now }
     {
         match self.number {
-            12 => self.line == 0,
-            number => 1 <= number && number <= 11,
+            13 => self.line == 0,
+            number => 1 <= number && number <= 12,
         }
     }
 }

@@ -32,7 +32,7 @@ fn fault_of_cut(cut: &[u8]) -> QuestionFault {
     if cut.len() < b"#QCIR-14\nexists(a, b)\nforall(c)\noutput(-g)".len() {
         QuestionFault::Q9
     } else {
-        QuestionFault::Q5
+        QuestionFault::Q12
     }
 }
 

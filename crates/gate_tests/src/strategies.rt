@@ -66,7 +66,7 @@ fn names_the_fault_that_is_found_first(rt: HostRuntime) {
         &rt,
         b"#QCIR-14\noutput(g)\n",
         &mut PieceSource::new(b"p qrp\n", 3, 0),
-        Unverified::Question(QuestionFault::Q5, 3),
+        Unverified::Question(QuestionFault::Q12, 3),
     );
     assert_refused(
         &rt,

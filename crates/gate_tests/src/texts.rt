@@ -57,7 +57,21 @@ fn refuses_names(rt: HostRuntime) {
         b"#QCIR-14\noutput(g)\ng = or(g)\n",
         (QuestionFault::Q5, 3),
     );
-    assert_refused(&rt, b"#QCIR-14\noutput(g)\n", (QuestionFault::Q5, 3));
+    assert_refused(
+        &rt,
+        b"#QCIR-14\noutput(g)\ng = or(-h)\n\nh = and(",
+        (QuestionFault::Q5, 3),
+    );
+}
+
+#[test]
+fn refuses_names_that_no_line_gives(rt: HostRuntime) {
+    assert_refused(&rt, b"#QCIR-14\noutput(g)\n", (QuestionFault::Q12, 3));
+    assert_refused(
+        &rt,
+        b"#QCIR-14\noutput(g)\ng = or(-h, g)\n#h = and()\n",
+        (QuestionFault::Q12, 3),
+    );
 }
 
 #[test]

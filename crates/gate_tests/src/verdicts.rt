@@ -49,7 +49,7 @@ fn refuses_the_proof_of_another_formula(rt: HostRuntime) {
 #[test]
 fn names_the_fault_of_the_formula_first(rt: HostRuntime) {
     let found = verdict(&rt, b"#QCIR-14\noutput(g)\n", b"p qrp\n");
-    assert_eq!(rt; found, Err(Unverified::Question(QuestionFault::Q5, 3)));
+    assert_eq!(rt; found, Err(Unverified::Question(QuestionFault::Q12, 3)));
 }
 
 #[test]

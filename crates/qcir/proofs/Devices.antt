@@ -12,14 +12,14 @@ use Rattle.qbf_tokens.specs.Tokens.{is_line_end}
 use Rattle.qcir_tokens.specs.Tokens.{Token, Word, Sign, tokens}
 use Rattle.qcir_tokens.specs.declared.mark.Mark.TheVariants.{Close, Comma, Equals, Hash, Minus, Open}
 use Rattle.qcir.specs.declared.fault.QuestionFault.{QuestionFault}
-use Rattle.qcir.specs.declared.fault.QuestionFault.TheVariants.{Q1, Q2}
+use Rattle.qcir.specs.declared.fault.QuestionFault.TheVariants.{Q1, Q2, Q5}
 use Rattle.qcir.specs.declared.keyword.Keyword.{Keyword}
 use Rattle.qcir.specs.declared.keyword.Keyword.TheVariants as words
 use Rattle.qcir.specs.Names.{Name, literal_at, literal_named, with_name}
 use Rattle.qcir.specs.Words.{keyword_of}
-use Rattle.qcir.specs.Reading.{AtPrefix, InGates, InPrefix, PartsSoFar, State, and_literal, bound, gate, gate_line, gates_row, gates_state}
-use Rattle.qcir.specs.Reading.{inputs, is_header, kind_of, literals, members, on_line, output_row, prefix_line, prefix_row, read_gates, read_lines}
-use Rattle.qcir.specs.Reading.{read_whole, result_at, row, set_row, with_gate, with_output}
+use Rattle.qcir.specs.Reading.{AtPrefix, InGates, InPrefix, PartsSoFar, State, and_literal, bound, by_lines, gate, gate_line, gates_row, gates_state}
+use Rattle.qcir.specs.Reading.{inputs, is_given, is_header, kind_of, literals, members, missing_fault, missing_input, on_line, output_row, prefix_line, prefix_row}
+use Rattle.qcir.specs.Reading.{read_gates, read_lines, read_whole, result_at, row, set_row, with_gate, with_output}
 
 -- the fault is not that a source failed
 IsOfText : {A : Type 0} → Result A QuestionFault → Type 0
@@ -141,23 +141,37 @@ unfolding IsOfText
 state_text negative w (Err f) text is = text cc
 state_text negative w (Ok b) text is = absurd cc
 
-row_text : (s : State) (ts : List Token) → IsOfText (row s ts)
+missing_text : (names : List Name) (line : List ℕ) (lines : List (List ℕ)) → missing_fault names line lines ≡ Q1 → ⊥
+missing_text names line lines is = elim (cases_Bool (is_given (missing_input names (tokens line)) (line ∷ lines))) [
+  | inl e ↦ (let given = rw e at is in absurd (cc given))
+  | inr e ↦ (let none = rw e at is in absurd (cc none))
+]
+
+by_lines_text : (names : List Name) (line : List ℕ) (lines : List (List ℕ)) (r : Result PartsSoFar QuestionFault) → IsOfText r
+    → IsOfText (by_lines names line lines r)
 unfolding IsOfText
-row_text (InPrefix b) ts is = prefix_text b ts is
-row_text (InGates b negative w) ts is = state_text negative w (gates_row b ts) (gates_text b ts) is
+by_lines_text names line lines (Ok b) text is = absurd cc
+by_lines_text names line lines (Err Q5) text is = missing_text names line lines (cc is)
+by_lines_text names line lines (Err f) text is = text is
+
+row_text : (s : State) (line : List ℕ) (lines : List (List ℕ)) → IsOfText (row s line lines)
+unfolding IsOfText
+row_text (InPrefix b) line lines is = prefix_text b (tokens line) is
+row_text (InGates b negative w) line lines is =
+    let here = gates_row b (tokens line) in
+    state_text negative w (by_lines b.names line lines here) (by_lines_text b.names line lines here (gates_text b (tokens line))) is
 
 -- ---- the whole
 
-output_of_text : (b : PartsSoFar) (r : Result Literal QuestionFault) → IsOfText r → IsOfText (with_output b r)
+output_of_text : (b : PartsSoFar) (r : Result Literal QuestionFault) → IsOfText (with_output b r)
 unfolding IsOfText
-output_of_text b (Err f) text is = text cc
-output_of_text b (Ok l) text is = absurd cc
+output_of_text b (Err f) is = absurd cc
+output_of_text b (Ok l) is = absurd cc
 
 end_text : (s : State) → IsOfText (result_at s)
 unfolding IsOfText
 end_text (InPrefix b) is = absurd cc
-end_text (InGates b negative w) is =
-    output_of_text b (literal_named b.names negative w) (named_text negative (position (bytes_eq w) b.names)) is
+end_text (InGates b negative w) is = output_of_text b (literal_named b.names negative w) is
 
 -- the fault with its line is not that a source failed
 IsLinedText : {A : Type 0} → Result A (QuestionFault × ℕ) → Type 0
@@ -177,7 +191,7 @@ unfolding IsLinedText
 lines_text (Err e) n lines text m is = text m cc
 lines_text (Ok s) n [] text m is = lined_text n (result_at s) (end_text s) m is
 lines_text (Ok s) n (line ∷ lines) text m is =
-    lines_text (on_line (n + 1) (row s (tokens line))) (n + 1) lines (lined_text (n + 1) (row s (tokens line)) (row_text s (tokens line))) m is
+    lines_text (on_line (n + 1) (row s line lines)) (n + 1) lines (lined_text (n + 1) (row s line lines) (row_text s line lines)) m is
 
 not_first : (m : ℕ) → ◌≡◌ {A = QuestionFault × ℕ} (Q2, 1) (Q1, m) → ⊥
 not_first m same = let fault = first_same Q2 1 m same in absurd (cc fault)

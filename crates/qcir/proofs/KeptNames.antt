@@ -18,7 +18,7 @@ module _ {B : Type 0} (bytes : B → List ℕ) where
       let F : ℕ → ℕ → Option ℕ = λ n m. cond (nat_lt n m) (Some n) None in
       ap (λ n. F n (length ks)) (len_of q ks) ∙ ap (λ m. F (position_or_len (bytes_eq q) (map bytes ks)) m) (sym (length-map ks bytes))
 
-  any_of : (q : List ℕ) (ks : List B) → list_any (λ k. bytes_eq q (bytes k)) ks ≡ list_any (bytes_eq q) (map bytes ks)
+  pub any_of : (q : List ℕ) (ks : List B) → list_any (λ k. bytes_eq q (bytes k)) ks ≡ list_any (bytes_eq q) (map bytes ks)
   any_of q [] = refl
   any_of q (k ∷ ks) = rw (any_of q ks) refl
 

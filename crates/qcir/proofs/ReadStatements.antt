@@ -15,10 +15,10 @@ use Rattle.qcir.specs.declared.keyword.Keyword.TheVariants as words
 use Rattle.qcir.specs.Words.{keyword_of}
 use Rattle.qcir.specs.Names.{Name, literal_named, with_name}
 use Rattle.qcir.specs.Lines.{SaysNothing, signed}
-use Rattle.qcir.specs.Reading.{AtPrefix, InGates, InPrefix, PartsSoFar, Question, State, and_literal, bound, gate, gate_line, gates_row, gates_state}
+use Rattle.qcir.specs.Reading.{AtPrefix, InGates, InPrefix, PartsSoFar, Question, State, and_literal, bound, by_lines, gate, gate_line, gates_row, gates_state}
 use Rattle.qcir.specs.Reading.{inputs, is_header, kind_of, literals, members, on_line, output_row, prefix_line, prefix_row, read_gates, read_lines}
 use Rattle.qcir.specs.Reading.{read_whole, result_at, row, set_row}
-use Rattle.qcir.proofs.Sound.{off_line}
+use Rattle.qcir.proofs.Sound.{off_line, read_so}
 use Rattle.qcir.proofs.Statements.{GateOf, IsStated, LeadAll, Leads, OutputOf, Say, Says, SetOf, Statement, all_named, bind_all}
 use Rattle.qcir.proofs.Statements.{literals_listed, literals_tail, names_tail, word_of}
 
@@ -56,13 +56,24 @@ module _ (names : List Name) where
 
 -- ---- and lines
 
-nothing_read : (s : State) (ts : List Token) → SaysNothing ts → row s ts ≡ Ok s
-nothing_read (InPrefix b) [] none = refl
-nothing_read (InPrefix b) (Sign Hash ∷ ts) none = refl
-nothing_read (InPrefix b) ts none = absurd none
-nothing_read (InGates b n w) [] none = refl
-nothing_read (InGates b n w) (Sign Hash ∷ ts) none = refl
-nothing_read (InGates b n w) ts none = absurd none
+nothing_before : (b : PartsSoFar) (ts : List Token) → SaysNothing ts → prefix_row b ts ≡ Ok (InPrefix b)
+nothing_before b [] none = refl
+nothing_before b (Sign Hash ∷ ts) none = refl
+nothing_before b ts none = absurd none
+
+nothing_after : (b : PartsSoFar) (ts : List Token) → SaysNothing ts → gates_row b ts ≡ Ok b
+nothing_after b [] none = refl
+nothing_after b (Sign Hash ∷ ts) none = refl
+nothing_after b ts none = absurd none
+
+-- a gate that is read here is read whatever comes after it
+gate_read : (b c : PartsSoFar) (n : Bool) (v : Name) (line : List ℕ) (lines : List (List ℕ)) → gates_row b (tokens line) ≡ Ok c
+    → row (InGates b n v) line lines ≡ Ok (InGates c n v)
+gate_read b c n v line lines is = ap (λ r. gates_state n v (by_lines b.names line lines r)) is
+
+nothing_read : (s : State) (line : List ℕ) (lines : List (List ℕ)) → SaysNothing (tokens line) → row s line lines ≡ Ok s
+nothing_read (InPrefix b) line lines none = nothing_before b (tokens line) none
+nothing_read (InGates b n w) line lines none = gate_read b b n w line lines (nothing_after b (tokens line) none)
 
 output_read : (b : PartsSoFar) (negative : Bool) (w : Name) → output_row b (signed negative w (Sign Close ∷ [])) ≡ Ok (InGates b negative w)
 output_read b false w = refl
@@ -73,36 +84,46 @@ set_read : (b : PartsSoFar) (q : Quantifier) (k : Keyword) (ts : List Token) →
 set_read b All k ts is = rw is refl
 set_read b Exists k ts is = rw is refl
 
-statement_read : (s : State) (ts : List Token) (st : Statement) (t : State) → Says ts st → Leads s st t → row s ts ≡ Ok t
-statement_read (InPrefix b) ts (SetOf q []) t said lead = absurd said
-statement_read (InPrefix b) ts (SetOf q (w ∷ ws)) t said lead =
+-- a statement of the prefix
+said_before : (b : PartsSoFar) (ts : List Token) (st : Statement) (t : State) → Says ts st → Leads (InPrefix b) st t → prefix_row b ts ≡ Ok t
+said_before b ts (SetOf q []) t said lead = absurd said
+said_before b ts (SetOf q (w ∷ ws)) t said lead =
     let tokens_are = said.2 in
     rw tokens_are (set_read b q (keyword_of said.0) (Word w ∷ names_tail ws) said.1
     ∙ (ap set_row (members_tail q (bound q b (with_name b.names w)) ws ∙ lead.1) ∙ ap Ok lead.2))
-statement_read (InPrefix b) ts (OutputOf negative w) t said lead =
+said_before b ts (OutputOf negative w) t said lead =
     let tokens_are = said.2 in
     let word_is = said.1 in
     rw (tokens_are, word_is) (output_read b negative w ∙ ap Ok lead)
-statement_read (InPrefix b) ts (GateOf w kind ms) t said lead = absurd lead
-statement_read (InGates b n v) ts (SetOf q ws) t said lead = absurd lead
-statement_read (InGates b n v) ts (OutputOf negative w) t said lead = absurd lead
-statement_read (InGates b n v) ts (GateOf w kind ms) t said lead =
+said_before b ts (GateOf w kind ms) t said lead = absurd lead
+
+gate_said : (b c : PartsSoFar) (ts : List Token) (w : Name) (kind : GateKind) (ms : List (Bool × Name)) → Says ts (GateOf w kind ms)
+    → gate b w kind (all_named b.names ms) ≡ Ok c → gates_row b ts ≡ Ok c
+gate_said b c ts w kind ms said is =
     let tokens_are = said.2 in
     let kind_is = said.1 in
-    rw (tokens_are, kind_is) (ap (gates_state n v) (ap (gate b w kind) (inputs_listed b.names ms) ∙ lead.1) ∙ ap Ok lead.2)
+    rw (tokens_are, kind_is) (ap (gate b w kind) (inputs_listed b.names ms) ∙ is)
+
+statement_read : (s : State) (line : List ℕ) (lines : List (List ℕ)) (st : Statement) (t : State) → Says (tokens line) st → Leads s st t
+    → row s line lines ≡ Ok t
+statement_read (InPrefix b) line lines st t said lead = said_before b (tokens line) st t said lead
+statement_read (InGates b n v) line lines (SetOf q ws) t said lead = absurd lead
+statement_read (InGates b n v) line lines (OutputOf negative w) t said lead = absurd lead
+statement_read (InGates b n v) line lines (GateOf w kind ms) t said lead =
+    gate_read b lead.0 n v line lines (gate_said b lead.0 (tokens line) w kind ms said lead.1) ∙ ap Ok lead.2
 
 lines_read : (s : State) (n : ℕ) (lines : List (List ℕ)) (sts : List Statement) (t : State) (q : Question) → Say lines sts → LeadAll s sts t
     → result_at t ≡ Ok q → read_lines (Ok s) n lines ≡ Ok q
 lines_read s n [] [] t q said lead is = ap (on_line n) (ap result_at lead ∙ is)
 lines_read s n [] (st ∷ sts) t q said lead is = absurd said
 lines_read s n (line ∷ lines) [] t q said lead is =
-    ap (λ r. read_lines (on_line (n + 1) r) (n + 1) lines) (nothing_read s (tokens line) said.0)
+    ap (λ r. read_lines (on_line (n + 1) r) (n + 1) lines) (nothing_read s line lines said.0)
     ∙ lines_read s (n + 1) lines [] t q said.1 lead is
 lines_read s n (line ∷ lines) (st ∷ sts) t q (inl said) lead is =
-    ap (λ r. read_lines (on_line (n + 1) r) (n + 1) lines) (nothing_read s (tokens line) said.0)
+    ap (λ r. read_lines (on_line (n + 1) r) (n + 1) lines) (nothing_read s line lines said.0)
     ∙ lines_read s (n + 1) lines (st ∷ sts) t q said.1 lead is
 lines_read s n (line ∷ lines) (st ∷ sts) t q (inr said) lead is =
-    ap (λ r. read_lines (on_line (n + 1) r) (n + 1) lines) (statement_read s (tokens line) st lead.0 said.0 lead.1)
+    ap (λ r. read_lines (on_line (n + 1) r) (n + 1) lines) (statement_read s line lines st lead.0 said.0 lead.1)
     ∙ lines_read lead.0 (n + 1) lines sts t q said.1 lead.2 is
 
 pub stated_is_read : (bytes : List ℕ) (q : Question) → IsStated bytes q → read_gates bytes ≡ Ok q
@@ -247,9 +268,12 @@ inv_after b n v ts (Ok c) t said is =
       | inr some ↦ inr (GateOf some.0 some.1 some.2, some.3, (c, some.4, same))
     ]
 
-inv_row : (s : State) (ts : List Token) (t : State) → row s ts ≡ Ok t → IsSaid s ts t
-inv_row (InPrefix b) ts t is = inv_prefix b ts t is
-inv_row (InGates b n v) ts t is = inv_after b n v ts (gates_row b ts) t (inv_gates b ts) is
+inv_row : (s : State) (line : List ℕ) (lines : List (List ℕ)) (t : State) → row s line lines ≡ Ok t → IsSaid s (tokens line) t
+inv_row (InPrefix b) line lines t is = inv_prefix b (tokens line) t is
+inv_row (InGates b n v) line lines t is =
+    let here = gates_row b (tokens line) in
+    inv_after b n v (tokens line) (by_lines b.names line lines here) t
+    (λ c e. inv_gates b (tokens line) c (read_so b.names line lines here c e)) is
 
 -- ---- the whole
 
@@ -288,9 +312,9 @@ lines_inv (Err e) n lines q is = absurd cc
 lines_inv (Ok s) n [] q is =
     (s, refl, record { statements = []; said = tt; last = s; lead = refl; result = off_line n (result_at s) q is })
 lines_inv (Ok s) n (line ∷ lines) q is =
-    let rest = lines_inv (on_line (n + 1) (row s (tokens line))) (n + 1) lines q is in
-    let step = off_line (n + 1) (row s (tokens line)) rest.0 rest.1 in
-    (s, refl, one_more s rest.0 line lines q (inv_row s (tokens line) rest.0 step) rest.2)
+    let rest = lines_inv (on_line (n + 1) (row s line lines)) (n + 1) lines q is in
+    let step = off_line (n + 1) (row s line lines) rest.0 rest.1 in
+    (s, refl, one_more s rest.0 line lines q (inv_row s line lines rest.0 step) rest.2)
 
 whole : (bytes first : List ℕ) (lines : List (List ℕ)) (q : Question) (r : Result State (QuestionFault × ℕ))
     → slice_split is_line_end bytes ≡ first ∷ lines → is_header (tokens first) ≡ true → r ≡ Ok AtPrefix

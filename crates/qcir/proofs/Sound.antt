@@ -19,9 +19,10 @@ use Rattle.qbf_gates.specs.Gates.{Gate, IsWellFormed, StandInOrder, gate_names, 
 use Rattle.qbf_gates.specs.Kept.{fits, gate_of}
 use Rattle.qcir_tokens.specs.Tokens.{Sign, Token, Word, tokens}
 use Rattle.qcir.specs.declared.fault.QuestionFault.{QuestionFault}
+use Rattle.qcir.specs.declared.fault.QuestionFault.TheVariants.{Q5}
 use Rattle.qcir.specs.Laws.{ReadsWellFormed}
 use Rattle.qcir.specs.Names.{Name, literal_at, literal_named, with_name}
-use Rattle.qcir.specs.Reading.{AtPrefix, PartsSoFar, Question, State, InGates, InPrefix, and_literal, bound, gate, gate_line, gates_row, gates_state}
+use Rattle.qcir.specs.Reading.{AtPrefix, PartsSoFar, Question, State, InGates, InPrefix, and_literal, bound, by_lines, gate, gate_line, gates_row, gates_state}
 use Rattle.qcir.specs.Reading.{inputs, is_header, kind_of, literals, members, on_line, output_row, prefix_line, prefix_row, read_lines}
 use Rattle.qcir.specs.Reading.{read_whole, result_at, row, set_row, with_gate, with_output}
 use Rattle.qcir.specs.Words.{keyword_of}
@@ -224,10 +225,20 @@ kept_output negative w (Err f) t sound is = absurd cc
 kept_output negative w (Ok c) t sound is =
     let e : InGates c negative w ≡ t = cc in subst (λ (s : State). IsSoundState s) e (sound c refl)
 
-row_sound : (s : State) (ts : List Token) (t : State) → IsSoundState s → row s ts ≡ Ok t → IsSoundState t
+-- a gate is read whatever comes after its line
+pub read_so : (names : List Name) (line : List ℕ) (lines : List (List ℕ)) (r : Result PartsSoFar QuestionFault) (c : PartsSoFar)
+    → by_lines names line lines r ≡ Ok c → r ≡ Ok c
+read_so names line lines (Ok b) c is = is
+read_so names line lines (Err Q5) c is = absurd cc
+read_so names line lines (Err f) c is = absurd cc
+
+row_sound : (s : State) (line : List ℕ) (lines : List (List ℕ)) (t : State) → IsSoundState s → row s line lines ≡ Ok t → IsSoundState t
 unfolding IsSoundState
-row_sound (InPrefix b) ts t sound is = prefix_sound b ts t sound is
-row_sound (InGates b negative w) ts t sound is = kept_output negative w (gates_row b ts) t (λ c. gates_sound b ts c sound) is
+row_sound (InPrefix b) line lines t sound is = prefix_sound b (tokens line) t sound is
+row_sound (InGates b negative w) line lines t sound is =
+    let here = gates_row b (tokens line) in
+    kept_output negative w (by_lines b.names line lines here) t
+    (λ c e. gates_sound b (tokens line) c sound (read_so b.names line lines here c e)) is
 
 -- ---- the whole
 
@@ -293,8 +304,8 @@ lines_sound : (r : Result State (QuestionFault × ℕ)) (n : ℕ) (lines : List 
 lines_sound (Err e) n lines q sound is = absurd cc
 lines_sound (Ok s) n [] q sound is = end_sound s q (sound s refl) (off_line n (result_at s) q is)
 lines_sound (Ok s) n (line ∷ lines) q sound is =
-    lines_sound (on_line (n + 1) (row s (tokens line))) (n + 1) lines q
-    (λ t e. row_sound s (tokens line) t (sound s refl) (off_line (n + 1) (row s (tokens line)) t e)) is
+    lines_sound (on_line (n + 1) (row s line lines)) (n + 1) lines q
+    (λ t e. row_sound s line lines t (sound s refl) (off_line (n + 1) (row s line lines) t e)) is
 
 start_sound : (r : Result State (QuestionFault × ℕ)) → r ≡ Ok AtPrefix → (s : State) → r ≡ Ok s → IsSoundState s
 unfolding IsSoundState

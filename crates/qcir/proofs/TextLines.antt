@@ -80,7 +80,7 @@ begun bytes first lines reader split header start =
     ap read_whole split ∙ (rw header (ap (λ (s : State). read_lines (Ok s) 1 lines) (sym start)))
 
 pub next_line : (s new : State) (n : ℕ) (rest next : List ℕ) (lines : List (List ℕ)) → slice_split is_line_end rest ≡ next ∷ lines
-    → row s (tokens next) ≡ Ok new → read_lines (Ok s) n (slice_split is_line_end rest) ≡ read_lines (Ok new) (n + 1) lines
+    → row s next lines ≡ Ok new → read_lines (Ok s) n (slice_split is_line_end rest) ≡ read_lines (Ok new) (n + 1) lines
 next_line s new n rest next lines split is =
     ap (λ (ls : List (List ℕ)). read_lines (Ok s) n ls) split ∙ ap (λ r. read_lines (on_line (n + 1) r) (n + 1) lines) is
 

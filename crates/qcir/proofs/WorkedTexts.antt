@@ -8,7 +8,7 @@ use Rattle.qbf_gates.specs.Gates.{And, Or, Xor, Ite, inputs_of}
 use Rattle.qbf_tokens.specs.Tokens.{is_line_end}
 use Rattle.qcir_tokens.specs.Tokens.{is_word_byte, runs}
 use Rattle.qcir.specs.declared.fault.QuestionFault.{QuestionFault}
-use Rattle.qcir.specs.declared.fault.QuestionFault.TheVariants.{Q2, Q3, Q4, Q5, Q8, Q9}
+use Rattle.qcir.specs.declared.fault.QuestionFault.TheVariants.{Q2, Q3, Q4, Q5, Q8, Q9, Q12}
 use Rattle.qcir.specs.Grammar.{IsQuestion, says_something}
 use Rattle.qcir.specs.Names.{Question}
 use Rattle.qcir.specs.Reading.{read_gates}
@@ -98,9 +98,12 @@ rows = (codes "#QCIR-15\noutput(g)\n", Err (Q2, 1))
     ∷ (codes "#QCIR-14\nexists(a,)\n", Err (Q3, 2))
     ∷ (codes "#QCIR-14\nexists(a, a)\n", Err (Q4, 2))
     ∷ (codes "#QCIR-14\noutput(g)\ng = or(g)\n", Err (Q5, 3))
+    ∷ (codes "#QCIR-14\noutput(g)\ng = or(-h)\n\nh = and(", Err (Q5, 3))
+    ∷ (codes "#QCIR-14\noutput(g)\ng = or(-h, g)\n#h = and()\n", Err (Q12, 3))
+    ∷ (codes "#QCIR-14\noutput(g)\nh = and()", Err (Q12, 3))
     ∷ (codes "#QCIR-14\noutput(g)\ng = xor()\n", Err (Q8, 3))
     ∷ (codes "#QCIR-14\nexists(a)", Err (Q9, 2))
     ∷ []
 
 rows_read : AllByRecursion (λ r. read_gates r.0 ≡ r.1) rows
-rows_read = (refl, (refl, (refl, (refl, (refl, (refl, (refl, tt)))))))
+rows_read = (refl, (refl, (refl, (refl, (refl, (refl, (refl, (refl, (refl, (refl, tt))))))))))

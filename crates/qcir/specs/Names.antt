@@ -25,7 +25,7 @@ with_name names w =
     then (if list_any (bytes_eq w) names then Err Q4 else Ok (names ++ w ∷ []))
     else Err Q10
 
--- the literal of the name at a place
+-- the literal of the name at a place; Q5 here says that the name is missing: it is not given so far
 abbrev pub literal_at : Bool → Option ℕ → Result Literal QuestionFault
 literal_at negative None = Err Q5
 literal_at negative (Some place) = Ok (record { var = place + 1; negative = negative })

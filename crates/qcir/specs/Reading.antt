@@ -1,7 +1,7 @@
 -- Reading QCIR-14 line by line (Jordan, Klieber, Seidl 2016): for each state in the text a row says which lines go on, and which are a fault.
 use Rattle.std.specs.Prelude.{ℕ, ◌+◌, Bool, true, false, ◌&&◌, ◌||◌, List, [], ◌∷◌, ◌++◌, length, Result, Ok, Err}
 use Rattle.std.specs.Prelude.{bytes_eq, codes, if◌then◌else◌}
-use Rattle.std.specs.List.{list_all, slice_split}
+use Rattle.std.specs.List.{list_all, list_any, slice_split}
 use Rattle.std.specs.Char.{is_ascii_digit}
 use Rattle.qbf_core.specs.declared.quantifier.Quantifier.{Quantifier}
 use Rattle.qbf_core.specs.declared.quantifier.Quantifier.TheVariants.{All, Exists}
@@ -15,7 +15,7 @@ use Rattle.qbf_gates.specs.Kept.{fits, gate_of}
 use Rattle.qcir_tokens.specs.declared.mark.Mark.TheVariants.{Close, Comma, Equals, Hash, Minus, Open}
 use Rattle.qcir_tokens.specs.Tokens.{Token, Word, Sign, tokens}
 use Rattle.qcir.specs.declared.fault.QuestionFault.{QuestionFault}
-use Rattle.qcir.specs.declared.fault.QuestionFault.TheVariants.{Q2, Q3, Q6, Q7, Q8, Q9}
+use Rattle.qcir.specs.declared.fault.QuestionFault.TheVariants.{Q2, Q3, Q5, Q6, Q7, Q8, Q9, Q12}
 use Rattle.qcir.specs.declared.keyword.Keyword.{Keyword}
 use Rattle.qcir.specs.declared.keyword.Keyword.TheVariants as words
 use Rattle.qcir.specs.Words.{keyword_of}
@@ -154,16 +154,48 @@ abbrev pub gates_state : Bool → Name → Result PartsSoFar QuestionFault → R
 gates_state negative w (Err f) = Err f
 gates_state negative w (Ok b) = Ok (InGates b negative w)
 
+-- ---- a name that is missing: not given so far
+
+-- the first missing name of literals between commas
+abbrev pub first_missing : List Name → Bool → List Token → Name
+first_missing names true (Word w ∷ ts) = if list_any (bytes_eq w) names then first_missing names false ts else w
+first_missing names true (Sign Minus ∷ Word w ∷ ts) = if list_any (bytes_eq w) names then first_missing names false ts else w
+first_missing names false (Sign Comma ∷ ts) = first_missing names true ts
+first_missing names next ts = []
+
+-- the first missing input of a gate
+abbrev pub missing_input : List Name → List Token → Name
+missing_input names (Word w ∷ Sign Equals ∷ Word k ∷ Sign Open ∷ ts) = first_missing names true ts
+missing_input names ts = []
+
+-- whether a line gives this name to a gate
+abbrev pub gives : Name → List Token → Bool
+gives w (Word v ∷ Sign Equals ∷ ts) = bytes_eq v w
+gives w ts = false
+
+abbrev pub is_given : Name → List (List ℕ) → Bool
+is_given w [] = false
+is_given w (line ∷ lines) = gives w (tokens line) || is_given w lines
+
+-- a missing input of a line: Q5 if this line or one of those after it gives its name, and Q12 if none does
+abbrev pub missing_fault : List Name → List ℕ → List (List ℕ) → QuestionFault
+missing_fault names line lines = if is_given (missing_input names (tokens line)) (line ∷ lines) then Q5 else Q12
+
+-- what a line of a gate leads to, by the lines after it
+abbrev pub by_lines : List Name → List ℕ → List (List ℕ) → Result PartsSoFar QuestionFault → Result PartsSoFar QuestionFault
+by_lines names line lines (Err Q5) = Err (missing_fault names line lines)
+by_lines names line lines r = r
+
 -- ---- the whole
 
--- the row of each state
-abbrev pub row : State → List Token → Result State QuestionFault
-row (InPrefix b) ts = prefix_row b ts
-row (InGates b negative w) ts = gates_state negative w (gates_row b ts)
+-- the row of each state: what a line leads to, with the lines after it
+abbrev pub row : State → List ℕ → List (List ℕ) → Result State QuestionFault
+row (InPrefix b) line lines = prefix_row b (tokens line)
+row (InGates b negative w) line lines = gates_state negative w (by_lines b.names line lines (gates_row b (tokens line)))
 
--- the formula with this output
+-- the formula with this output, if a line gives it
 abbrev pub with_output : PartsSoFar → Result Literal QuestionFault → Result Question QuestionFault
-with_output b (Err f) = Err f
+with_output b (Err f) = Err Q12
 with_output b (Ok l) =
     Ok (record { names = b.names; formula = record { blocks = blocks_of b.pairs; gates = b.gates; output = l } })
 
@@ -181,7 +213,7 @@ on_line n (Err f) = Err (f, n)
 abbrev pub read_lines : Result State (QuestionFault × ℕ) → ℕ → List (List ℕ) → Result Question (QuestionFault × ℕ)
 read_lines (Err e) n lines = Err e
 read_lines (Ok s) n [] = on_line n (result_at s)
-read_lines (Ok s) n (line ∷ lines) = read_lines (on_line (n + 1) (row s (tokens line))) (n + 1) lines
+read_lines (Ok s) n (line ∷ lines) = read_lines (on_line (n + 1) (row s line lines)) (n + 1) lines
 
 -- the state after the header
 abbrev pub AtPrefix : State

@@ -18,8 +18,7 @@ pub enum QuestionFault {
     Q3,
     /// A name that is given twice.
     Q4,
-    /// A name that no line before gives: a gate before its definition, or a variable that is not
-    /// bound.
+    /// A gate before its definition: an input whose name only this line or a later one gives.
     Q5,
     /// Free variables.
     Q6,
@@ -33,6 +32,8 @@ pub enum QuestionFault {
     Q10,
     /// Out of memory: an allocation failed.
     Q11,
+    /// A name that no line gives: a variable that is not bound, or the output.
+    Q12,
 }
 
 impl From<AllocError> for QuestionFault {

@@ -19,11 +19,13 @@ mod keyword;
 mod laws;
 mod lines;
 mod literals;
+mod missing;
 mod names;
 mod parts;
 mod question;
 mod reader;
 mod source;
+mod split;
 mod text;
 mod writing;
 

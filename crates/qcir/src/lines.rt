@@ -1,6 +1,7 @@
 //! The lines of a formula of gates.
 
 ghost use Rattle.std.specs.Prelude.{◌≡◌, ◌<◌, true, false, length, IfSome, IfNone, IfOk, IfErr, OnOk, Ok, Err};
+ghost use Rattle.std.specs.Result.{IsErrOf};
 ghost use Rattle.qcir.specs.Lines.{SaysNothing, SaysSomething};
 ghost use Rattle.qcir.specs.Outcomes.{LeadsTo, Refuses};
 ghost use Rattle.qcir.specs.Reading.{PartsSoFar, InGates, InPrefix, gates_row, members, output_row, prefix_line, prefix_row};
@@ -148,7 +149,8 @@ pub(crate) fn read_gate_line<'a>(
     line: &mut Line<'a>,
     parts: &mut Parts<'a>,
 ) -> Result<(), QuestionFault>
-    ensures { LeadsTo (gates_row parts.old line.old) parts.new result }
+    ensures read { LeadsTo (gates_row parts.old line.old) parts.new result }
+    ensures kept { IsErrOf result QuestionFault.Q5 → parts.new.names ≡ parts.old.names }
 {
     if says_nothing(line) {
         return Ok(());

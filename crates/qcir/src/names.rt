@@ -75,6 +75,13 @@ impl<'a> Names<'a> {
         self.set.get_index_of(&Key { name })
     }
 
+    /// Whether a name is given.
+    pub(crate) fn has(&self, name: &[u8]) -> bool
+        ensures { result ≡ list_any (bytes_eq name.now) self.now }
+    {
+        self.set.contains(&Key { name })
+    }
+
     /// The name of a variable or a gate, if it is given.
     pub(crate) fn name(&self, var: Var) -> Option<&'a [u8]>
         ensures { option_map (λ n. n.now) result ≡ name_at self.now var }
@@ -110,6 +117,7 @@ impl<'a> Names<'a> {
     pub(crate) fn give(&mut self, name: &'a [u8]) -> Result<(), QuestionFault>
         ensures given { LeadsTo (with_name self.old name.now) self.new result }
         ensures kept { length self.old ≤ length self.new }
+        ensures refused { OnErr result (self.new ≡ self.old) }
     {
         if self.set.len() >= LAST_VARIABLE as usize {
             return Err(QuestionFault::Q10);

@@ -1,6 +1,7 @@
 //! The parts of a formula of gates while it is read.
 
 ghost use Rattle.std.specs.Prelude.{◌≡◌, ◌<◌, ◌≤◌, [], ◌∷◌, length};
+ghost use Rattle.std.specs.Result.{IsErrOf};
 ghost use Rattle.qcir.specs.Names.{literal_named, with_name};
 ghost use Rattle.qcir.specs.Outcomes.{LeadsTo};
 ghost use Rattle.qcir.specs.Reading.{bound, gate, inputs, with_output};
@@ -61,6 +62,13 @@ impl<'a> Parts<'a> {
         }
     }
 
+    /// The names so far.
+    pub(crate) fn names(&self) -> &Names<'a>
+        ensures { result.now ≡ self.now.names }
+    {
+        &self.names
+    }
+
     /// Binds a variable of this name innermost.
     ///
     /// # Errors
@@ -93,8 +101,9 @@ impl<'a> Parts<'a> {
         name: &'a [u8],
         kind: GateKind,
     ) -> Result<(), QuestionFault>
-        ensures { LeadsTo (gate self.old name.now kind (inputs self.old.names line.old))
+        ensures read { LeadsTo (gate self.old name.now kind (inputs self.old.names line.old))
             self.new result }
+        ensures kept { IsErrOf result QuestionFault.Q5 → self.new.names ≡ self.old.names }
     {
         read_inputs(line, &self.names, &mut self.gates)?;
         if !kind.fits(self.gates.inputs_len()) {
@@ -109,14 +118,14 @@ impl<'a> Parts<'a> {
     /// The formula with the output of this name, negated or not.
     ///
     /// # Errors
-    /// Q5 if the name is not given.
+    /// Q12 if the name is not given.
     pub(crate) fn finish(self, negative: bool, output: &[u8]) -> Result<Question<'a>, QuestionFault>
         ensures { result ≡ with_output self.entry (literal_named self.entry.names negative output.now) }
     {
         // The length of a prefix shows what holds of every prefix.
         let _ = self.gates.prefix().len();
         match self.names.literal(negative, output) {
-            Err(fault) => Err(fault),
+            Err(_) => Err(QuestionFault::Q12),
             Ok(lit) => Ok(Question::new(self.names, GateFormula::new(self.gates, lit))),
         }
     }

@@ -1,12 +1,12 @@
 //! A text as it is read, line by line.
 
 ghost use Rattle.std.specs.Prelude.{◌≡◌, [], false};
-ghost use Rattle.qcir_tokens.specs.Tokens.{tokens};
 ghost use Rattle.qcir.specs.Outcomes.{LeadsTo};
-ghost use Rattle.qcir.specs.Reading.{AtPrefix, result_at, row};
+ghost use Rattle.qcir.specs.Reading.{AtPrefix, lines_left, result_at, row};
 
 use crate::fault::QuestionFault;
-use crate::lines::{read_gate_line, read_prefix_line};
+use crate::lines::read_prefix_line;
+use crate::missing::read_line_after_output;
 use crate::parts::Parts;
 use crate::question::Question;
 use qcir_tokens::Line;
@@ -46,18 +46,23 @@ impl<'a> Reader<'a> {
         }
     }
 
-    /// Reads a line, without its line end.
+    /// Reads a line, without its line end. The text after it and whether that has lines say which
+    /// fault an input that no line before gives is.
     ///
     /// # Errors
     /// The fault of the line at its place, and Q11 if an allocation failed.
-    pub(crate) fn take_line(&mut self, bytes: &'a [u8]) -> Result<(), QuestionFault>
-        ensures { LeadsTo (row self.old (tokens bytes.now)) self.new result }
+    pub(crate) fn take_line(
+        &mut self,
+        line: &'a [u8],
+        text: &[u8],
+        is_left: bool,
+    ) -> Result<(), QuestionFault>
+        ensures { LeadsTo (row self.old line.now (lines_left is_left text.now)) self.new result }
     {
-        let mut line = Line::new(bytes);
         if self.in_gates {
-            return read_gate_line(&mut line, &mut self.parts);
+            return read_line_after_output(&mut self.parts, line, text, is_left);
         }
-        match read_prefix_line(&mut line, &mut self.parts) {
+        match read_prefix_line(&mut Line::new(line), &mut self.parts) {
             Err(fault) => Err(fault),
             Ok(None) => Ok(()),
             Ok(Some((negative, output))) => {
@@ -72,7 +77,7 @@ impl<'a> Reader<'a> {
     /// The formula, if these were all lines.
     ///
     /// # Errors
-    /// Q9 if no output was read, and Q5 if its name is not given.
+    /// Q9 if no output was read, and Q12 if no line gives its name.
     pub(crate) fn finish(self) -> Result<Question<'a>, QuestionFault>
         ensures { result ≡ result_at self.entry }
     {

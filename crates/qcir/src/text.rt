@@ -1,41 +1,18 @@
 //! Reading a text.
 
-ghost use Rattle.std.specs.Prelude.{◌≡◌, ◌+◌, ◌<◌, ◌≤◌, true, false, length, ◌∷◌, position, IfOk};
-ghost use Rattle.std.specs.List.{range_with_len, slice_split};
-ghost use Rattle.qbf_tokens.specs.Tokens.{is_line_end};
+ghost use Rattle.std.specs.Prelude.{◌≡◌, length, IfOk};
+ghost use Rattle.std.specs.List.{range_with_len};
 ghost use Rattle.qbf_gates.specs.Gates.{IsWellFormed, names};
 ghost use Rattle.qcir.specs.Outcomes.{Tells};
-ghost use Rattle.qcir.specs.Reading.{lines_left, read_gates};
+ghost use Rattle.qcir.specs.Reading.{read_gates};
 
 use crate::fault::QuestionFault;
 use crate::header::is_header;
 use crate::question::Question;
 use crate::reader::Reader;
-use memchr::memchr;
+use crate::split::split_line;
 use qcir_tokens::Line;
 use std::alloc::Global;
-
-/// Where the first line of a text ends, if it has a line end.
-#[tactic(auto, using(crate::proofs::TextLines::found_end))]
-fn line_end(text: &[u8]) -> Option<usize>
-    ensures { result ≡ position is_line_end text.now }
-{
-    memchr(b'\n', text)
-}
-
-/// The first line of a text without its line end, what stands after that, and whether there is a
-/// line end: if there is none, this is the last line.
-fn split_line(text: &[u8]) -> (&[u8], &[u8], bool)
-    ensures lines { slice_split is_line_end text.now
-        ≡ result.0.now ∷ lines_left result.2 result.1.now }
-    ensures shorter { result.2 ≡ true → length result.1.now < length text.now }
-    ensures last { result.2 ≡ false → length result.1.now ≡ 0 }
-{
-    match line_end(text) {
-        None => (text, b"".as_slice(), false),
-        Some(end) => (&text[..end], &text[end + 1..], true),
-    }
-}
 
 /// A fault on its line, or out of memory on line 0.
 fn on_line(fault: QuestionFault, line: u64) -> (QuestionFault, u64)
@@ -53,7 +30,7 @@ fn on_line(fault: QuestionFault, line: u64) -> (QuestionFault, u64)
 /// the names of its variables and gates, or the first fault and its line.
 ///
 /// # Errors
-/// Q2 to Q10 as they are listed, and Q11 only if an allocation failed.
+/// Q2 to Q10 and Q12 as they are listed, and Q11 only if an allocation failed.
 pub fn read_question<'a>(
     alloc: Global,
     text: &'a [u8],
@@ -72,7 +49,7 @@ pub fn read_question<'a>(
     'lines: while more {
         let (next, after, again) = split_line(rest);
         line += 1;
-        match reader.take_line(next) {
+        match reader.take_line(next, after, again) {
             Ok(()) => {}
             Err(fault) => return Err(on_line(fault, line)),
         }

@@ -24,7 +24,7 @@ chosen b x y short_x short_y = search rules
 digits : (n : ℕ) → n < 2 ^ 64 → length (decimal n) ≤ 20
 digits n small = length-decimal-le 20 n (omega arith) (omega (arith, small)) small
 
-few_digits : (n : ℕ) → n ≤ 12 → length (decimal n) ≤ 2
+few_digits : (n : ℕ) → n ≤ 13 → length (decimal n) ≤ 2
 few_digits n low = length-decimal-le 2 n (omega arith) (omega (arith, low)) (omega (arith, low))
 
 one_digit : (n : ℕ) → n ≤ 9 → length (decimal n) ≤ 1
@@ -54,10 +54,10 @@ refusal_short r of small = let low = numbers_low r (has_numbers r of) in by_numb
 verdict_short : (b : Bool) → length (verdict_line b) < 47
 verdict_short b = search rules
 
-gates_short : (r : GateRefusal) → r.number ≤ 12 → r.line < 2 ^ 64 → length (gate_line r) < 47
+gates_short : (r : GateRefusal) → r.number ≤ 13 → r.line < 2 ^ 64 → length (gate_line r) < 47
 gates_short r low small = grind (arith, common_steps, chosen, numbers_short, few_digits, digits)
 
-question_low : (e : QuestionFault) → question_number e ≤ 12
+question_low : (e : QuestionFault) → question_number e ≤ 13
 question_low e = search rules
 
 -- by the position that was encoded

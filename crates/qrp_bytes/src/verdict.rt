@@ -26,7 +26,7 @@ pub struct QrpVerdict {
     /// `V` if the formula was verified, or the letter of the fault: `F`, `P`, `C`, or `Q` of a
     /// formula of gates.
     pub letter: u8,
-    /// The number of the fault, as 4 of C4, or 0; 12 of Q if there are too many clauses.
+    /// The number of the fault, as 4 of C4, or 0; 13 of Q if there are too many clauses.
     pub number: u8,
     /// For C6 the number of the step's fault, as 7 of S7, else 0.
     pub rule: u8,

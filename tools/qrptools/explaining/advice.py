@@ -77,11 +77,12 @@ ROWS: list[tuple[str, Optional[str], str, str]] = [
         "correct the line: first come the sets, then the output, and then the gates, each on a line of its own (docs/FORMATS.md)",
     ),
     ("Q4", None, "a name is given twice", "give the variable or the gate another name"),
-    ("Q5", None, "a name that no line before gives", "put the gate before those that use it, or bind the variable in a set"),
+    ("Q5", None, "a gate before its definition", "put the gate before those that use it"),
     ("Q6", None, "free variables", "bind them in a set: outermost by `exists(..)`, as solvers read free variables"),
     ("Q7", None, "a gate with a quantifier", "write the formula in prenex form: all quantifiers in sets before the output"),
     ("Q8", None, "a gate has more or fewer inputs than its kind", "give `xor` two inputs and `ite` three; `and` and `or` take any number"),
     ("Q9", None, "the text ends before the output", "give the whole file, with a line `output(..)` before the gates"),
+    ("Q12", None, "a name that no line gives", "bind the variable in a set, or define the gate; the name may be misspelled, or the file cut off"),
     ("P2", None, "the header is wrong", "give a trace in the text form of QRP, which begins with `p qrp`: `--trace=qrp`"),
     (
         "P3",

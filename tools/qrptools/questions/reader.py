@@ -17,6 +17,7 @@ TOKEN = re.compile(rb"[A-Za-z0-9_]+|[^ \t\r]")
 WORD = re.compile(rb"[A-Za-z0-9_]+")
 LITERAL = rb"[ \t\r]*-?[ \t\r]*[A-Za-z0-9_]+[ \t\r]*"
 GATE = re.compile(rb"[ \t\r]*([A-Za-z0-9_]+)[ \t\r]*=[ \t\r]*(and|or|xor|ite)[ \t\r]*\((%b(?:,%b)*|[ \t\r]*)\)[ \t\r]*" % (LITERAL, LITERAL))
+GIVEN = re.compile(rb"[ \t\r]*([A-Za-z0-9_]+)[ \t\r]*=")  # the name of a gate
 QUANTIFIERS = {b"exists": EXISTS, b"forall": FOR_ALL}
 SIZES = {b"and": None, b"or": None, b"xor": 2, b"ite": 3}  # how many inputs a gate of each kind has; None if it may have any number
 SETS = "exists(..) or forall(..)"
@@ -127,7 +128,7 @@ class Reader:
             raise QuestionFault("Q9", last, text, None, "the text ends, and no line 'output(..)' was there")
         is_negative, name = self.output
         if name not in self.numbers:
-            raise QuestionFault("Q5", last, text, None, f"the text ends, and no line gives the output '{name.decode()}'")
+            raise QuestionFault("Q12", last, text, None, f"the text ends, and no line gives the output '{name.decode()}'")
         self.question.output = -self.numbers[name] if is_negative else self.numbers[name]
         return self.question
 
@@ -211,12 +212,20 @@ class Reader:
         while is_next:
             is_negative, name = line.take(b"-"), line.word("a name, or a name after a minus,")
             if name not in self.numbers:
-                raise line.refuse("Q5", f"no line before gives the name '{name.decode()}'", 1)
+                raise self.missing(name, line)
             found.append(-self.numbers[name] if is_negative else self.numbers[name])
             is_next = line.take(b",")
             if not is_next:
                 line.close()
         return found
+
+    def missing(self, name: bytes, line: Line) -> QuestionFault:
+        """The fault of an input that was taken last, and that no line before gives."""
+        for number, text in enumerate(self.data.split(b"\n")[line.number - 1 :], line.number):
+            given = GIVEN.match(text)
+            if given and given[1] == name:
+                return line.refuse("Q5", f"no line before gives the name '{name.decode()}', but line {number} does", 1)
+        return line.refuse("Q12", f"no line gives the name '{name.decode()}'", 1)
 
 
 def is_question(data: bytes) -> bool:
