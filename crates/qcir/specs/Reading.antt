@@ -173,6 +173,7 @@ abbrev pub gives : Name → List Token → Bool
 gives w (Word v ∷ Sign Equals ∷ ts) = bytes_eq v w
 gives w ts = false
 
+-- whether one of these lines gives this name to a gate
 abbrev pub is_given : Name → List (List ℕ) → Bool
 is_given w [] = false
 is_given w (line ∷ lines) = gives w (tokens line) || is_given w lines

@@ -58,7 +58,9 @@ fn read_literal<'a>(
     let Some((negative, word)) = signed_name(line) else {
         return Err(QuestionFault::Q3);
     };
-    let lit = names.literal(negative, word)?;
+    let Some(lit) = names.literal(negative, word) else {
+        return Err(QuestionFault::Q5);
+    };
     gates.push_input(lit)?;
     Ok(())
 }

@@ -1,6 +1,6 @@
 //! Names, numbered in the order in which they are given.
 
-ghost use Rattle.std.specs.Prelude.{◌≡◌, [], ◌∷◌, ◌++◌, true, false, length, IfOk, IfSome, OnErr, position};
+ghost use Rattle.std.specs.Prelude.{◌≡◌, [], ◌∷◌, ◌++◌, true, false, length, IfOk, IfSome, IfNone, OnErr, Ok, Err, position};
 ghost use Rattle.std.specs.Prelude.{bytes_eq, ◌+◌, ◌<◌, ◌≤◌};
 ghost use Rattle.std.specs.List.{list_any};
 ghost use Rattle.std.specs.Option.{option_map};
@@ -129,18 +129,17 @@ impl<'a> Names<'a> {
         }
     }
 
-    /// The literal of a name.
-    ///
-    /// # Errors
-    /// Q5 if it is not given.
-    pub(crate) fn literal(&self, negative: bool, name: &[u8]) -> Result<Lit, QuestionFault>
-        ensures { result ≡ literal_named self.now negative name.now }
+    /// The literal of a name, or `None` if it is not given.
+    pub(crate) fn literal(&self, negative: bool, name: &[u8]) -> Option<Lit>
+        ensures given { IfSome result (λ l. literal_named self.now negative name.now ≡ Ok l) }
+        ensures missing { IfNone result
+            (literal_named self.now negative name.now ≡ Err QuestionFault.Q5) }
     {
         match self.place(name) {
-            None => Err(QuestionFault::Q5),
+            None => None,
             Some(place) => match Var::new(place as u32 + 1) {
                 None => unreachable!(),
-                Some(var) => Ok(Lit::new(var, negative)),
+                Some(var) => Some(Lit::new(var, negative)),
             },
         }
     }

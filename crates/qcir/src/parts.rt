@@ -125,8 +125,8 @@ impl<'a> Parts<'a> {
         // The length of a prefix shows what holds of every prefix.
         let _ = self.gates.prefix().len();
         match self.names.literal(negative, output) {
-            Err(_) => Err(QuestionFault::Q12),
-            Ok(lit) => Ok(Question::new(self.names, GateFormula::new(self.gates, lit))),
+            None => Err(QuestionFault::Q12),
+            Some(lit) => Ok(Question::new(self.names, GateFormula::new(self.gates, lit))),
         }
     }
 }
