@@ -12,8 +12,8 @@ use Rattle.dimacs_syntax.specs.Decode.{decode_literal, decode_member}
 use Rattle.qbf_core.specs.declared.quantifier.Quantifier.{Quantifier}
 use Rattle.qbf_text.proofs.LeadingNumbers.{takes_further}
 use Rattle.qbf_text.specs.Rows.{Goes}
-use Rattle.qrp.specs.declared.states.Lists.{Lists}
-use Rattle.qrp.specs.declared.states.Part.{Part}
+use Rattle.trace_items.specs.declared.parts.Lists.{Lists}
+use Rattle.trace_items.specs.declared.parts.Part.{Part}
 use Rattle.qrp.specs.declared.states.State as states
 use Rattle.qrp.specs.States.{completed, state_at, Arrives, Moves}
 use Rattle.qrp.specs.Reading.{State, Row, row, faults, set_row, lits_row, InSet, InLits, InAnts}

@@ -23,13 +23,14 @@ pub use Rattle.qbf_text.specs.Taking.{Leaves, ReadsWhole}
 pub use Rattle.qbf_text.specs.declared.grammar.ReadError.{ReadError}
 pub use Rattle.qrp.specs.Returns.{IsReadAs, Gives, StopsAfterResult, is_outside, reads_bytes}
 pub use Rattle.trace_items.specs.Derivations.{AreGrammatical, Derivation, IsWellFormed, items_of_lists, steps_at, with_steps_at}
-pub use Rattle.qrp.specs.Flat.{IsFlat, Kept, kept_of, steps_of, with_item}
+pub use Rattle.trace_items.specs.Flat.{IsFlat, Kept, kept_of, steps_of, with_item}
 pub use Rattle.qrp.specs.NextItem.{GivesNextItem, GivesUnless, StopsAfterPart, known_items, left_after, state_next, stage_after}
 pub use Rattle.qrp.specs.Grammar.{IsTrace, header, lines, lists, result, result_word, step, text}
 pub use Rattle.trace_items.specs.Inferences.{Inference, IsAt, IsInference, IsLiteral, IsNumber, numbers}
 pub use Rattle.qrp.specs.Items.{ItemsRead, Stands}
 pub use Rattle.qrp.specs.Laws.{ItemsOfTrace, ReadsText}
-pub use Rattle.qrp.specs.States.{IsSound, Stays, state_at}
+pub use Rattle.qrp.specs.States.{IsSound, state_at}
+pub use Rattle.trace_items.specs.Parts.{Stays}
 pub use Rattle.qrp.specs.Texts.{step_text, steps_text}
 pub use Rattle.qrp.specs.declared.fault.TraceFault.{TraceFault}
 pub use Rattle.qrp.specs.declared.fault.TraceFault.TheVariants.{P1, P2, P3, P4, P5, P6, P7, P8, P9}

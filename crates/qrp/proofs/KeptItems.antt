@@ -14,22 +14,23 @@ use Rattle.qbf_text.specs.Stopping as text
 use Rattle.qbf_text.proofs.OneToken as going
 use Rattle.qbf_text.proofs.Stops.{taken_no_end, unread_fault}
 use Rattle.trace_items.specs.declared.item.Item.TheVariants as item
-use Rattle.qrp.specs.declared.parts.Parts.{Parts}
+use Rattle.trace_items.specs.declared.parts.Parts.{Parts}
 use Rattle.qrp.specs.declared.states.State.TheVariants as at
-use Rattle.qrp.specs.declared.states.Part.TheVariants as part
-use Rattle.qrp.specs.declared.states.Lists.{Lists}
-use Rattle.qrp.specs.Flat.{kept_of, trace_of, ClosesPart}
-use Rattle.qrp.specs.States.{item_of, numbers_after, state_at, Arrives}
+use Rattle.trace_items.specs.declared.parts.Part.TheVariants as part
+use Rattle.trace_items.specs.declared.parts.Lists.{Lists}
+use Rattle.trace_items.specs.Flat.{kept_of, trace_of, ClosesPart}
+use Rattle.qrp.specs.States.{state_at, Arrives}
+use Rattle.trace_items.specs.Parts.{item_of, numbers_after}
 use Rattle.trace_items.specs.declared.item.Outcome.{Outcome}
 use Rattle.trace_items.specs.StepLists.{with_lists, ListsOfSteps}
 use Rattle.trace_items.specs.Antecedents.{list_of_pair}
 use Rattle.step_index.specs.Numbers.{AreStepNumbers}
-use Rattle.qrp.specs.Flat.{IsFlat, Kept}
-use Rattle.qrp.specs.States.{IsComplete}
-use Rattle.qrp.proofs.FlatSteps.{numbered_more, flat_pushed}
+use Rattle.trace_items.specs.Flat.{IsFlat, Kept}
+use Rattle.trace_items.specs.Parts.{IsComplete}
+use Rattle.trace_items.proofs.FlatSteps.{numbered_more, flat_pushed}
 use Rattle.trace_items.specs.Inferences.{Inference}
 use Rattle.std.proofs.Common.{subst}
-use Rattle.qrp.specs.declared.states.Part.{Part}
+use Rattle.trace_items.specs.declared.parts.Part.{Part}
 use Rattle.qrp.specs.declared.states.State as states
 use Rattle.qrp.specs.Reading.{Fault, State, Row, Between, After, row, items_from, with_items, nothing, read_trace}
 use Rattle.qrp.specs.WholeTrace.{TraceRead, made_of, nothing_read, kept_row, trace_at, trace_row}
@@ -162,22 +163,6 @@ kept_end d b (part.Header h) state v ends = ap (kept_row d) ends
 kept_end d b (part.Set q) state v ends = ap (kept_row d) ends
 kept_end d b (part.Step n) state v ends = ap (kept_row d) ends
 kept_end d b (part.Result o) state v ends = absurd (no_result state (int_lt v (pos 0)) (unsigned_abs v) o b.index ends)
-
--- a step is put after the others
-pub step_closes : {A : Type 0} (lists : A → ListsOfSteps) (p : Parts A) (s : A) (n : ℕ) → IsFlat (kept_of lists p)
-    → lists s ≡ with_lists (lists p.steps) p.lists.lits.unfinished p.lists.ants
-    → AreStepNumbers (p.lists.index ++ n ∷ []) → IsComplete (part.Step n) p.lists
-    → ClosesPart lists p (record p { lists = record p.lists { index = p.lists.index ++ n ∷ [] }; steps = s }) (part.Step n)
-step_closes lists p s n made added are complete =
-    let step : Inference = record { number = n; lits = p.lists.lits.unfinished; ants = list_of_pair p.lists.ants } in
-    let kept : ListsOfSteps → Kept = λ k. record (kept_of lists p) { numbers = p.lists.index ++ n ∷ []; lits = k.lits; ants = k.ants } in
-    record {
-      made = ap (λ (k : ListsOfSteps). trace_of (kept k)) added ∙ ap (λ (xs : List Inference). record (trace_of (kept_of lists p)) { steps = xs })
-          (numbered_more p.lists.index (lists p.steps).lits (lists p.steps).ants step made.lits_counted made.ants_counted);
-      numbers = refl;
-      flat = subst (λ (k : ListsOfSteps). IsFlat (kept k)) (sym added) (flat_pushed (kept_of lists p) step made are
-          (record { number = complete.0.0; lits = complete.1; ants = complete.2.numbers; few = complete.2.few }) complete.2.fit);
-    }
 
 -- a step that a zero completes is kept
 pub step_kept : {A : Type 0} (lists : A → ListsOfSteps) (first : TraceRead) (old new : Parts A) (n : ℕ) (values : List ℤ) (from i : ℕ) → slice_index_or values i (pos 0) ≡ pos 0

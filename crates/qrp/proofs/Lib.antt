@@ -3,8 +3,6 @@ pub mod BufferedNumbers
 pub mod SpelledIsRead
 pub mod ReadIsSpelled
 pub mod WrittenParts
-pub mod FlatSteps
-pub mod OtherSets
 pub mod RowsReadTheItem
 pub mod ItemStops
 pub mod KeptItems

@@ -8,7 +8,7 @@ use Rattle.qrp.specs.declared.fault.TraceFault.TheVariants.{P1, P9}
 use Rattle.trace_items.specs.declared.item.Item.{Item}
 use Rattle.qrp.specs.declared.reader.Stage.{Stage}
 use Rattle.qrp.specs.declared.reader.Stage.TheVariants.{AtHeader, AtLists}
-use Rattle.qrp.specs.Flat.{Kept}
+use Rattle.trace_items.specs.Flat.{Kept}
 use Rattle.qrp.specs.NextItem.{known_items, left_after, is_last, numbers_with, stage_after, GivesNextItem, IsProper, StopsAfterPart}
 use Rattle.qrp.specs.Reading.{Fault, State, AtP, Between, After}
 

@@ -5,7 +5,6 @@ pub mod Laws
 pub mod NextItem
 pub mod Returns
 pub mod Texts
-pub mod Flat
 pub mod Framed
 pub mod States
 pub mod Items

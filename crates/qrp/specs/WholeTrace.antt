@@ -7,11 +7,11 @@ use Rattle.qrp.specs.declared.fault.TraceFault.{TraceFault}
 use Rattle.qrp.specs.declared.fault.TraceFault.TheVariants.{P7}
 use Rattle.trace_items.specs.declared.item.Item.TheVariants as item
 use Rattle.trace_items.specs.declared.item.Outcome.{Outcome}
-use Rattle.qrp.specs.declared.parts.Parts.{Parts}
+use Rattle.trace_items.specs.declared.parts.Parts.{Parts}
 use Rattle.qrp.specs.declared.states.State as states
 use Rattle.trace_items.specs.Derivations.{Derivation}
 use Rattle.trace_items.specs.StepLists.{ListsOfSteps}
-use Rattle.qrp.specs.Flat.{kept_of, trace_of, with_item, IsFlat}
+use Rattle.trace_items.specs.Flat.{kept_of, trace_of, with_item, IsFlat}
 use Rattle.qrp.specs.Reading.{Fault, State, Row, AtP, Between, After, nothing, row}
 use Rattle.qrp.specs.States.{state_at, IsSound}
 

@@ -4,20 +4,20 @@ ghost use Rattle.std.specs.Prelude.{◌≡◌, ◌≤◌, ◌<◌, ◌+◌, leng
 ghost use Rattle.std.specs.Prelude.{slice_index_or, IfSome, IfNone, IfOk, IsTrue};
 ghost use Rattle.qbf_text.specs.TakenNumbers.{LeadsOver};
 ghost use Rattle.qrp.specs.declared.states.State.TheVariants as at;
-ghost use Rattle.qrp.specs.Flat.{kept_of, IsFlat};
+ghost use Rattle.trace_items.specs.Flat.{kept_of, IsFlat};
 ghost use Rattle.qrp.specs.Reading.{row};
-ghost use Rattle.qrp.specs.States.{completed, state_at, Arrives, IsSound, Stays};
+ghost use Rattle.qrp.specs.States.{completed, state_at, Arrives, IsSound};
+ghost use Rattle.trace_items.specs.Parts.{Stays};
 ghost use Rattle.qrp.specs.WholeTrace.{trace_at, trace_row, AreSound};
 ghost use Rattle.window_numbers.specs.Values.{numbers_of};
 
-use crate::parts::{Parts, close};
-use crate::states::{Lists, Part, State, take_at, take_item_start};
+use crate::states::{State, take_at, take_item_start};
 use crate::tokens::{FAULTS, decode_antecedent};
 use dimacs_syntax::{decode_member, extend_literals};
 use qbf_core::{LAST_VARIABLE, Quantifier};
 use qbf_text::Stop;
 use std::alloc::AllocError;
-use trace_items::{AntecedentPair, StepLists};
+use trace_items::{AntecedentPair, Lists, Part, Parts, StepLists, close};
 use window_numbers::{Values, Zeros};
 
 /// Two places among the buffered numbers.

@@ -1,21 +1,20 @@
 //! The parts of a trace, given one after the other.
 
 ghost use Rattle.std.specs.Prelude.{◌≡◌, IfOk, OnErr};
-ghost use Rattle.qrp.specs.Flat.{kept_of, nothing_kept, IsFlat};
+ghost use Rattle.trace_items.specs.Flat.{kept_of, nothing_kept, IsFlat};
 ghost use Rattle.qrp.specs.Items.{HasItem, GivesItem};
 ghost use Rattle.qrp.specs.Reading.{AtP};
 
 use crate::buffered_numbers::{NextPlaces, take_part};
 use crate::fault::TraceFault;
-use crate::parts::Parts;
-use crate::states::{Lists, Part, State, take_at};
+use crate::states::{State, take_at};
 use dimacs_syntax::HeaderAt;
 use qbf_text::{Grammar, Progress, Stop, Taken};
 use qbf_tokens::Token;
 use std::alloc::{AllocError, Global};
 use std::marker::Model;
 use std::mem;
-use trace_items::{Item, LentLists, QuantSet, Step};
+use trace_items::{Item, LentLists, Lists, Part, Parts, QuantSet, Step};
 use window_numbers::{Values, Zeros};
 
 /// A trace whose parts are given one after the other.
@@ -28,7 +27,7 @@ pub struct ItemGrammar {
 }
 
 impl Model for ItemGrammar {
-    ghost use Rattle.qrp.specs.Flat.{kept_of};
+    ghost use Rattle.trace_items.specs.Flat.{kept_of};
     ghost use Rattle.qrp.specs.Items.{ItemsRead};
     ghost use Rattle.qrp.specs.States.{state_at, IsSound};
 
@@ -93,7 +92,7 @@ impl ItemGrammar {
 }
 
 impl Grammar for ItemGrammar {
-    ghost use Rattle.qrp.specs.Flat.{Kept};
+    ghost use Rattle.trace_items.specs.Flat.{Kept};
     ghost use Rattle.qrp.specs.Reading.{State, row};
 
     type Output = ();

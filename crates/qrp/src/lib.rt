@@ -1,9 +1,8 @@
-//! Traces of Q-resolution proofs (QRP): reading them from bytes, keeping them, and writing their
-//! canonical text.
+//! Traces of Q-resolution proofs (QRP): reading them from bytes, and writing their canonical text.
 //!
 //! - Owns: texts of traces.
-//! - Offers: `TraceReader`, `read_trace`, `read_flat`, `write_trace`, `write_steps_at`, `Trace`;
-//!   `read_compact`, `CompactTrace`; `write_framed`, `write_framed_at`; and the items of a trace.
+//! - Offers: `TraceReader`, `read_trace`, `read_flat`, `read_compact`; `write_trace`,
+//!   `write_steps_at`, `write_framed`, `write_framed_at`; and the items of a trace.
 //! - Proved: exactly the trace that the bytes spell, or exactly the first fault and its line, whole
 //!   and item by item; the canonical text.
 //! - Read first: `TraceReader::next_item`, `read_trace`, `write_trace`, `write_steps_at`,
@@ -15,24 +14,21 @@
 #![tactic(auto)]
 
 mod buffered_numbers;
-mod compact_trace;
 mod fault;
 mod items;
 mod laws;
-mod parts;
 mod reader;
+mod reading;
 mod states;
 mod tokens;
-mod trace;
 mod whole_trace;
 mod writing;
 
-pub use compact_trace::{CompactTrace, read_compact};
 pub use fault::TraceFault;
 pub use laws::{item_laws, trace_laws};
 pub use reader::TraceReader;
+pub use reading::{read_compact, read_trace, read_trace as read_flat};
 pub use step_index::StepIndex;
-pub use trace::{FlatTrace, Trace, read_trace, read_trace as read_flat};
 pub use trace_items::{
     Antecedents, FlatSets, Header, Item, KeptSets, KeptSteps, LentSets, LentSteps, Outcome,
     QuantSet, Step, Steps,

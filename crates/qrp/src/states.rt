@@ -2,7 +2,7 @@
 
 ghost use Rattle.std.specs.Prelude.{◌≡◌};
 ghost use Rattle.qrp.specs.declared.states.State.TheVariants as at;
-ghost use Rattle.qrp.specs.declared.states.Lists.{Lists};
+ghost use Rattle.trace_items.specs.declared.parts.Lists.{Lists};
 ghost use Rattle.qrp.specs.States.{state_at, Moves, Leads, IsSound};
 ghost use Rattle.qrp.specs.Reading.{row};
 
@@ -11,12 +11,10 @@ use crate::tokens::{
     FAULTS, FORM, ItemStart, decode_antecedent, decode_item_start, decode_outcome,
 };
 use dimacs_syntax::{HeaderAt, HeaderMove, decode_literal, decode_member, header_move};
-use lists::GrowingLists;
-use qbf_core::{LAST_VARIABLE, Lit, Quantifier, Var};
+use qbf_core::{LAST_VARIABLE, Quantifier};
 use qbf_text::Stop;
 use qbf_tokens::Token;
-use step_index::StepIndex;
-use trace_items::{AntecedentPair, Header, Outcome};
+use trace_items::{AntecedentPair, Header, Lists, Part};
 
 /// The place of the next token. The lists so far are in `Lists`.
 #[derive(Clone, Copy)]
@@ -38,34 +36,8 @@ pub enum State {
     After(Part),
 }
 
-/// A part of a trace that is complete. Its lists are in `Lists`.
-#[derive(Clone, Copy)]
-pub enum Part {
-    /// The header.
-    Header(Header),
-    /// A set with this quantifier.
-    Set(Quantifier),
-    /// The step with this number.
-    Step(u64),
-    /// The result, which is the last.
-    Result(Outcome),
-}
-
 /// The state that a token leads to, or why it is not taken.
 type Transition = Result<State, Stop<TraceFault>>;
-
-/// The unfinished lists of a trace, and the numbers of its whole steps.
-#[derive(Drop)]
-pub struct Lists {
-    /// The variables of an unfinished set.
-    pub vars: Vec<Var>,
-    /// The literals of an unfinished step.
-    pub lits: GrowingLists<Lit>,
-    /// Its antecedents.
-    pub ants: AntecedentPair,
-    /// The numbers of the steps that are whole.
-    pub index: StepIndex,
-}
 
 /// Takes a token between lists.
 ///

@@ -2,21 +2,20 @@
 
 ghost use Rattle.std.specs.Prelude.{◌≡◌, ◌≤◌, length, Ok, IfOk};
 ghost use Rattle.qbf_text.specs.TakenNumbers.{LeadsOver};
-ghost use Rattle.qrp.specs.Flat.{kept_of, trace_of, IsFlat};
+ghost use Rattle.trace_items.specs.Flat.{kept_of, trace_of, IsFlat};
 ghost use Rattle.qrp.specs.Returns.{ReadsTrace};
 ghost use Rattle.qrp.specs.WholeTrace.{made_of, nothing_read, trace_row, trace_with, HasResult};
 ghost use Rattle.window_numbers.specs.Values.{numbers_of};
 
 use crate::buffered_numbers::{NextPlaces, keep_part, keep_steps, zeros_left};
 use crate::fault::{TraceFault, trace_fault};
-use crate::parts::{Parts, close};
-use crate::states::{Part, State, take_at};
+use crate::states::{State, take_at};
 use dimacs_syntax::HeaderAt;
 use qbf_text::{Grammar, Progress, Scanner, Source, Stop, Taken, read_by};
 use qbf_tokens::{Comments, Token};
 use std::alloc::{AllocError, Global};
 use std::marker::Model;
-use trace_items::{Outcome, StepLists};
+use trace_items::{Outcome, Part, Parts, StepLists, close};
 use window_numbers::{Values, Zeros};
 
 /// A trace that is read as a whole. The lists of its whole steps are kept in an `A`.

@@ -13,12 +13,12 @@ ghost use Rattle.qrp.specs.Reading.{read_trace};
 ghost use Rattle.dimacs_syntax.specs.Texts.{closing, literal_text, set_text};
 ghost use Rattle.qrp.specs.Texts.{step_text, steps_text};
 
-use crate::compact_trace::CompactTrace;
-use crate::trace::Trace;
 use dimacs_syntax::{Bare, Bytes, HeaderLine, Put};
 use qbf_core::{LitsLeft, Quantifier, Var};
 use qbf_text::{Sink, SinkFault, put_bytes};
-use trace_items::{Antecedents, Header, KeptSets, KeptSteps, LentSets, LentSteps, Outcome};
+use trace_items::{
+    Antecedents, CompactTrace, Header, KeptSets, KeptSteps, LentSets, LentSteps, Outcome, Trace,
+};
 
 /// The line of a set with this quantifier and these variables.
 #[inline(always)]

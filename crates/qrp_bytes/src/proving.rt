@@ -14,9 +14,10 @@ ghost use Rattle.qrp_bytes.specs.Verdicts.{StructHeadline, VerifyReturns};
 
 use crate::verdict::{QrpVerdict, encode};
 use qbf_text::{SliceSource, VecSink};
-use qrp::{CompactTrace, KeptSteps, write_steps_at};
+use qrp::{KeptSteps, write_steps_at};
 use qrp_check::{CheckFault, Fault, Rules, Verified, find_proof, find_truth};
 use std::alloc::{AllocError, Global};
+use trace_items::CompactTrace;
 
 /// The truth that the trace in these bytes shows of the formula in those.
 ///

@@ -8,10 +8,10 @@ ghost use Rattle.trace_items.specs.Inferences.{IsAt};
 ghost use Rattle.trace_check.specs.Trim.{trimmed_trace};
 
 use qbf_core::Lit;
-use qrp::{Header, QuantSet, Steps, Trace};
 use std::alloc::{AllocError, Global};
 use std::marker::Model;
 use trace_check::Verified;
+use trace_items::{Header, QuantSet, Steps, Trace};
 
 /// Another set with the same variables.
 fn copy_set(alloc: Global, set: &QuantSet) -> Result<QuantSet, AllocError>

@@ -15,10 +15,11 @@ use core_walk::Context;
 use qbf_core::Formula;
 use qbf_text::Source;
 use qdimacs::read_formula;
-use qrp::{CompactTrace, read_compact};
+use qrp::read_compact;
 use qrp_rules::Rules;
 use std::alloc::Global;
 use trace_check::{Verified, check_kept, check_marked, is_sat};
+use trace_items::CompactTrace;
 
 /// The trace that was read, and the result of its check on a formula that was read.
 ///

@@ -23,11 +23,12 @@ use crate::job::Job;
 use qbf_core::Formula;
 use qbf_text::{Sink, Source};
 use qdimacs::{read_formula, write_formula};
-use qrp::{CompactTrace, write_steps_at};
+use qrp::write_steps_at;
 use qrp_check::{Fault, Rules, Verified, find_proof, find_truth};
 use qrp_program::{Status, finish_sent, send_fault};
 use qrp_report::put_verdict;
 use std::alloc::Global;
+use trace_items::CompactTrace;
 
 /// Sends the canonical text of a formula, and returns the status: 0, or 3 if the sink failed.
 pub fn send_formula<S: Sink>(sink: &mut S, formula: &Formula) -> Status

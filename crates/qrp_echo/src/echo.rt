@@ -7,8 +7,9 @@ ghost use Rattle.qrp.specs.Reading.{Fault};
 ghost use Rattle.qrp_echo.specs.Echoed.{IsRead, IsEchoed, status_of};
 
 use qbf_text::{Sink, Source};
-use qrp::{Trace, TraceFault, read_trace, write_trace};
+use qrp::{TraceFault, read_trace, write_trace};
 use std::alloc::Global;
+use trace_items::Trace;
 
 /// The status of the program: 0 done, 1 not a trace, 3 a device failed, 4 an allocation
 /// failed.

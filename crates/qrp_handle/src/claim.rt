@@ -3,7 +3,7 @@
 ghost use Rattle.std.specs.Prelude.{◌≡◌};
 ghost use Rattle.qrp_handle.specs.Checks.{outcome_of};
 
-use qrp::Outcome;
+use trace_items::Outcome;
 
 /// The outcome that a caller claims: that the formula is true, or that it is false.
 pub fn outcome_of(sat: bool) -> Outcome

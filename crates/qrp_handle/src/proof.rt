@@ -16,10 +16,10 @@ ghost use Rattle.qbf_core.specs.WrittenLiterals.{literal_of};
 use crate::fault::AddFault;
 use crate::written::literals_of;
 use qbf_core::{Formula, LAST_VARIABLE, Prefix, PrefixFault, Quantifier, Var, are_bound};
-use qrp::{Header, Outcome, Steps, Trace};
 use qrp_check::{CheckFault, check};
 use qrp_rules::Rules;
 use std::alloc::Global;
+use trace_items::{Header, Outcome, Steps, Trace};
 
 /// A formula, and the steps of its proof that were handed over so far.
 #[derive(Drop)]

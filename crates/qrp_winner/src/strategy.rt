@@ -20,9 +20,9 @@ use qbf_core::{Formula, Quantifier};
 use qbf_strategy::circuit_of;
 use qbf_text::Source;
 use qdimacs::read_formula;
-use qrp::{CompactTrace, Outcome};
 use qrp_check::{Fault, Rules, Verified, find_proof_of};
 use std::alloc::Global;
+use trace_items::{CompactTrace, Outcome};
 
 /// The strategy of the player who wins a formula.
 #[derive(Drop)]

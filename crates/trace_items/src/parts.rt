@@ -2,16 +2,44 @@
 
 ghost use Rattle.std.specs.Prelude.{◌≡◌, false, [], ◌∷◌, ◌++◌, OnOk, OnErr};
 ghost use Rattle.trace_items.specs.StepLists.{with_lists};
-ghost use Rattle.qrp.specs.Flat.{kept_of, nothing_kept, ClosesPart, IsFlat};
-ghost use Rattle.qrp.specs.States.{IsComplete, Stays};
+ghost use Rattle.trace_items.specs.Flat.{kept_of, nothing_kept, ClosesPart, IsFlat};
+ghost use Rattle.trace_items.specs.Parts.{IsComplete, Stays};
 ghost use Rattle.step_index.specs.Numbers.{is_used, AreStepNumbers};
 
-use crate::states::{Lists, Part};
+use crate::antecedents::AntecedentPair;
+use crate::flat_sets::FlatSets;
+use crate::item::{Header, Outcome};
+use crate::step_lists::StepLists;
 use lists::GrowingLists;
-use qbf_core::Var;
+use qbf_core::{Lit, Quantifier, Var};
 use std::alloc::{AllocError, Global};
 use step_index::StepIndex;
-use trace_items::{AntecedentPair, FlatSets, Header, StepLists};
+
+/// A part of a trace that is complete. Its lists are in `Lists`.
+#[derive(Clone, Copy)]
+pub enum Part {
+    /// The header.
+    Header(Header),
+    /// A set with this quantifier.
+    Set(Quantifier),
+    /// The step with this number.
+    Step(u64),
+    /// The result, which is the last.
+    Result(Outcome),
+}
+
+/// The unfinished lists of a trace, and the numbers of its whole steps.
+#[derive(Drop)]
+pub struct Lists {
+    /// The variables of an unfinished set.
+    pub vars: Vec<Var>,
+    /// The literals of an unfinished step.
+    pub lits: GrowingLists<Lit>,
+    /// Its antecedents.
+    pub ants: AntecedentPair,
+    /// The numbers of the steps that are whole.
+    pub index: StepIndex,
+}
 
 /// The parts of a trace. The lists of its whole steps are kept in an `A`.
 #[derive(Drop)]

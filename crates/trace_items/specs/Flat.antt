@@ -6,12 +6,12 @@ use Rattle.trace_items.specs.declared.item.Header.{Header}
 use Rattle.trace_items.specs.declared.item.Item.{Item}
 use Rattle.trace_items.specs.declared.item.Item.TheVariants as item
 use Rattle.trace_items.specs.declared.item.Outcome.TheVariants.{Sat}
-use Rattle.qrp.specs.declared.parts.Parts.{Parts}
-use Rattle.qrp.specs.declared.states.Part.{Part}
+use Rattle.trace_items.specs.declared.parts.Parts.{Parts}
+use Rattle.trace_items.specs.declared.parts.Part.{Part}
 use Rattle.trace_items.specs.Derivations.{Derivation, IsWellFormed}
 use Rattle.trace_items.specs.Inferences.{Inference, numbers}
 use Rattle.trace_items.specs.StepLists.{ListsOfSteps}
-use Rattle.qrp.specs.States.{item_of, numbers_after}
+use Rattle.trace_items.specs.Parts.{item_of, numbers_after}
 
 -- the steps of these numbers, literals and antecedents
 abbrev pub steps_of : List ℕ → List (List Literal) → List (List ℕ) → List Inference

@@ -1,9 +1,17 @@
 -- Steps in flat buffers.
-use Rattle.qrp.proofs.Cited.{common_steps, ◌≡◌, ◌<◌, ◌≤◌, ◌^◌, ℕ, suc, List, [], ◌∷◌, ◌++◌, length, slice_get, Some, arith, AreStepNumbers}
-use Rattle.qrp.proofs.Cited.{Kept, steps_of, IsFlat, Inference, IsAt, IsInference}
+use Rattle.std.proofs.Common.{◌≡◌, ◌<◌, ◌≤◌, ◌^◌, ◌∙◌, ℕ, suc, List, [], ◌∷◌, ◌++◌, length, slice_get, Some, arith, ap, refl, subst, sym}
+use Rattle.std.proofs.lemmas.Grind.{common_steps}
 use Rattle.std.proofs.lemmas.List.{length-append, length-map, map-append}
 use Rattle.std.specs.List.{AllByRecursion}
 use Rattle.qbf_core.specs.Literal.{Literal}
+use Rattle.step_index.specs.Numbers.{AreStepNumbers}
+use Rattle.trace_items.specs.Antecedents.{list_of_pair}
+use Rattle.trace_items.specs.Flat.{kept_of, steps_of, trace_of, ClosesPart, IsFlat, Kept}
+use Rattle.trace_items.specs.Inferences.{Inference, IsAt, IsInference}
+use Rattle.trace_items.specs.Parts.{IsComplete}
+use Rattle.trace_items.specs.StepLists.{with_lists, ListsOfSteps}
+use Rattle.trace_items.specs.declared.parts.Part.TheVariants as part
+use Rattle.trace_items.specs.declared.parts.Parts.{Parts}
 
 -- the parts of the step at a position
 pub numbered_at : (ns : List ℕ) (lits : List (List Literal)) (ants : List (List ℕ)) (i : ℕ) (s : Inference)
@@ -33,3 +41,19 @@ pub flat_pushed : (k : Kept) (s : Inference) → IsFlat k → AreStepNumbers (k.
       ants = k.ants ++ s.ants ∷ [];
     })
 flat_pushed k s f are is fit = grind (arith, common_steps, numbered_more, map-append, length-map, length-append)
+
+-- a step is put after the others
+pub step_closes : {A : Type 0} (lists : A → ListsOfSteps) (p : Parts A) (s : A) (n : ℕ) → IsFlat (kept_of lists p)
+    → lists s ≡ with_lists (lists p.steps) p.lists.lits.unfinished p.lists.ants
+    → AreStepNumbers (p.lists.index ++ n ∷ []) → IsComplete (part.Step n) p.lists
+    → ClosesPart lists p (record p { lists = record p.lists { index = p.lists.index ++ n ∷ [] }; steps = s }) (part.Step n)
+step_closes lists p s n made added are complete =
+    let step : Inference = record { number = n; lits = p.lists.lits.unfinished; ants = list_of_pair p.lists.ants } in
+    let kept : ListsOfSteps → Kept = λ k. record (kept_of lists p) { numbers = p.lists.index ++ n ∷ []; lits = k.lits; ants = k.ants } in
+    record {
+      made = ap (λ (k : ListsOfSteps). trace_of (kept k)) added ∙ ap (λ (xs : List Inference). record (trace_of (kept_of lists p)) { steps = xs })
+          (numbered_more p.lists.index (lists p.steps).lits (lists p.steps).ants step made.lits_counted made.ants_counted);
+      numbers = refl;
+      flat = subst (λ (k : ListsOfSteps). IsFlat (kept k)) (sym added) (flat_pushed (kept_of lists p) step made are
+          (record { number = complete.0.0; lits = complete.1; ants = complete.2.numbers; few = complete.2.few }) complete.2.fit);
+    }

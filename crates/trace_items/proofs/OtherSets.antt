@@ -1,7 +1,10 @@
 -- A trace with other sets.
 use Rattle.std.specs.Prelude.{List}
-use Rattle.qrp.proofs.Cited.{Block, Derivation, IsFlat, IsWellFormed, Kept, Outcome, Sat}
-use Rattle.qrp.specs.Flat.{trace_of}
+use Rattle.qbf_core.specs.Blocks.{Block}
+use Rattle.trace_items.specs.Derivations.{Derivation, IsWellFormed}
+use Rattle.trace_items.specs.Flat.{trace_of, IsFlat, Kept}
+use Rattle.trace_items.specs.declared.item.Outcome.{Outcome}
+use Rattle.trace_items.specs.declared.item.Outcome.TheVariants.{Sat}
 use Rattle.trace_items.specs.SetLists.{AreSets}
 
 -- it is well formed if they are sets, whatever its result

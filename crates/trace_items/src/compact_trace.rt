@@ -2,16 +2,17 @@
 
 ghost use Rattle.std.specs.Prelude.{◌≡◌};
 ghost use Rattle.trace_items.specs.Derivations.{IsWellFormed};
-ghost use Rattle.qrp.specs.Returns.{ReadsTrace};
+ghost use Rattle.trace_items.specs.Flat.{kept_of, trace_of, IsFlat};
 
-use crate::fault::TraceFault;
+use crate::antecedents::Antecedents;
+use crate::flat_sets::FlatSets;
+use crate::item::{Header, Outcome};
+use crate::kept_steps::KeptSteps;
 use crate::parts::Parts;
-use crate::whole_trace::read_parts;
+use crate::step_lists::CompactLists;
 use qbf_core::{Lit, LitBuffer, LitsLeft};
-use qbf_text::Source;
-use std::alloc::{AllocError, Global};
+use std::alloc::AllocError;
 use std::marker::Model;
-use trace_items::{Antecedents, CompactLists, FlatSets, Header, KeptSteps, Outcome};
 
 /// A trace that was read as a whole. The literals of a step take as many bytes as its
 /// largest needs, and antecedents four as long as all of them fit, so it gives them and cannot lend
@@ -26,7 +27,7 @@ pub struct CompactTrace {
 
 impl Model for CompactTrace {
     ghost use Rattle.trace_items.specs.Derivations.{Derivation};
-    ghost use Rattle.qrp.specs.Flat.{kept_of, trace_of, IsFlat};
+    ghost use Rattle.trace_items.specs.Flat.{kept_of, trace_of, IsFlat};
 
     ghost Value = { Derivation };
 
@@ -37,6 +38,17 @@ impl Model for CompactTrace {
 }
 
 impl CompactTrace {
+    /// The trace that these parts make, with this result. It takes no memory.
+    pub fn of_parts(parts: Parts<CompactLists>, outcome: Outcome) -> CompactTrace
+        requires { IsFlat (kept_of (λ lists. lists) parts) }
+        ensures { result ≡ record (trace_of (kept_of (λ lists. lists) parts)) { result = outcome } }
+    {
+        CompactTrace {
+            parts,
+            result: outcome,
+        }
+    }
+
     /// Its header, as written.
     pub fn header(&self) -> Header
         ensures value { result ≡ self.now.header }
@@ -70,7 +82,7 @@ impl KeptSteps for CompactTrace {
     }
 
     #[inline(always)]
-    #[tactic(auto, using(trace_items::proofs::Positions::only_at))]
+    #[tactic(auto, using(crate::proofs::Positions::only_at))]
     fn number(&self, i: usize) -> u64 {
         self.parts.lists.index.number(i)
     }
@@ -98,23 +110,8 @@ impl KeptSteps for CompactTrace {
     }
 
     #[inline(always)]
-    #[tactic(auto, using(trace_items::proofs::Positions::step_found))]
+    #[tactic(auto, using(crate::proofs::Positions::step_found))]
     fn position(&self, number: u64) -> Option<usize> {
         self.parts.lists.index.position(number)
     }
-}
-
-/// Reads a trace as `read_trace` does.
-///
-/// # Errors
-/// As of `read_trace`.
-pub fn read_compact<S: Source>(
-    alloc: Global,
-    source: &mut S,
-) -> Result<CompactTrace, (TraceFault, u64)>
-    ensures { ReadsTrace (S.remaining source.old) (S.remaining source.new)
-        (S.failures source.old) (S.failures source.new) result }
-{
-    let (parts, result) = read_parts(alloc, source)?;
-    Ok(CompactTrace { parts, result })
 }

@@ -1,5 +1,5 @@
-use Rattle.qrp.proofs.KeptItems.{step_closes}
-use Rattle.qrp.proofs.parts.close.Goals as goal
+use Rattle.trace_items.proofs.FlatSteps.{step_closes}
+use Rattle.trace_items.proofs.parts.close.Goals as goal
 
 pub returns-in_ok-close_step-in-Step-clause-closed : goal.returns-in_ok-close_step-in-Step-clause-closed
 returns-in_ok-close_step-in-Step-clause-closed g c =
