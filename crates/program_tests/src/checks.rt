@@ -8,12 +8,12 @@ ghost use Rattle.std.specs.List.Sorted.{IsStrictlyIncreasing};
 use qbf_core::Formula;
 use qbf_text::{SinkFault, SliceSource, VecSink, put_bytes, put_number};
 use qdimacs::read_formula;
-use qrp::{Steps, read_trace, write_trace};
+use qrp::{read_trace, write_trace};
 use qrp_check::{CheckFault, Fault, Rules, Verified, check, trim, verify};
 use std::alloc::Global;
 use std::process::Abort;
 use std::test::Fail;
-use trace_items::Trace;
+use trace_items::{Steps, Trace};
 
 /// A formula and a trace.
 type Texts<'a> = (&'a [u8], &'a [u8]);

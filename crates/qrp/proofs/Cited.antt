@@ -23,10 +23,10 @@ pub use Rattle.qbf_text.specs.Taking.{Leaves, ReadsWhole}
 pub use Rattle.qbf_text.specs.declared.grammar.ReadError.{ReadError}
 pub use Rattle.qrp.specs.Returns.{IsReadAs, Gives, StopsAfterResult, is_outside, reads_bytes}
 pub use Rattle.trace_items.specs.Derivations.{AreGrammatical, Derivation, IsWellFormed, items_of_lists, steps_at, with_steps_at}
-pub use Rattle.trace_items.specs.Flat.{IsFlat, Kept, kept_of, steps_of, with_item}
+pub use Rattle.trace_items.specs.Flat.{IsFlat, kept_of, with_item}
 pub use Rattle.qrp.specs.NextItem.{GivesNextItem, GivesUnless, StopsAfterPart, known_items, left_after, state_next, stage_after}
 pub use Rattle.qrp.specs.Grammar.{IsTrace, header, lines, lists, result, result_word, step, text}
-pub use Rattle.trace_items.specs.Inferences.{Inference, IsAt, IsInference, IsLiteral, IsNumber, numbers}
+pub use Rattle.trace_items.specs.Inferences.{Inference, IsInference, IsLiteral, IsNumber, numbers}
 pub use Rattle.qrp.specs.Items.{ItemsRead, Stands}
 pub use Rattle.qrp.specs.Laws.{ItemsOfTrace, ReadsText}
 pub use Rattle.qrp.specs.States.{IsSound, state_at}
@@ -41,7 +41,7 @@ pub use Rattle.trace_items.specs.declared.item.Outcome.TheVariants.{Sat, Unsat}
 pub use Rattle.qrp.specs.declared.reader.Stage.{Stage}
 pub use Rattle.qrp.specs.declared.reader.Stage.TheVariants.{AtHeader, AtLists}
 pub use Rattle.std.proofs.Common.{Err, IfSome, List, Ok, Option, Result, Some, [], ap, append-nil, append_assoc, arith, drop}
-pub use Rattle.std.proofs.Common.{◌-◌, false, inl, inr, length, map, nat_eq, refl, rules, slice_get, suc, sym, zero, ℕ, ◌++◌, ◌+◌, ◌<◌}
+pub use Rattle.std.proofs.Common.{◌-◌, false, inl, inr, length, map, nat_eq, refl, rules, suc, sym, zero, ℕ, ◌++◌, ◌+◌, ◌<◌}
 pub use Rattle.std.proofs.Common.{◌^◌, ◌∙◌, ◌∷◌, ◌≡◌, ◌≤◌, ◌⊎◌}
 pub use Rattle.std.proofs.lemmas.Grind.{common_steps}
-pub use Rattle.step_index.specs.Numbers.{AreStepNumbers, is_used}
+pub use Rattle.step_index.specs.Numbers.{is_used}

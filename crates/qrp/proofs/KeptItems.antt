@@ -22,14 +22,7 @@ use Rattle.trace_items.specs.Flat.{kept_of, trace_of, ClosesPart}
 use Rattle.qrp.specs.States.{state_at, Arrives}
 use Rattle.trace_items.specs.Parts.{item_of, numbers_after}
 use Rattle.trace_items.specs.declared.item.Outcome.{Outcome}
-use Rattle.trace_items.specs.StepLists.{with_lists, ListsOfSteps}
-use Rattle.trace_items.specs.Antecedents.{list_of_pair}
-use Rattle.step_index.specs.Numbers.{AreStepNumbers}
-use Rattle.trace_items.specs.Flat.{IsFlat, Kept}
-use Rattle.trace_items.specs.Parts.{IsComplete}
-use Rattle.trace_items.proofs.FlatSteps.{numbered_more, flat_pushed}
-use Rattle.trace_items.specs.Inferences.{Inference}
-use Rattle.std.proofs.Common.{subst}
+use Rattle.trace_items.specs.StepLists.{ListsOfSteps}
 use Rattle.trace_items.specs.declared.parts.Part.{Part}
 use Rattle.qrp.specs.declared.states.State as states
 use Rattle.qrp.specs.Reading.{Fault, State, Row, Between, After, row, items_from, with_items, nothing, read_trace}

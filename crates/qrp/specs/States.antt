@@ -1,11 +1,9 @@
 -- The states of reading a trace, each made of the unfinished lists.
-use Rattle.std.specs.Prelude.{◌≡◌, ◌<◌, ◌≤◌, ◌^◌, ℕ, ℤ, false, List, [], ◌∷◌, ◌++◌, length, Option, Some, None, Result, Ok, Err, ⊤}
-use Rattle.dimacs_syntax.specs.Cited.{AllByRecursion, IsVariable}
+use Rattle.std.specs.Prelude.{◌≡◌, ℕ, ℤ, List, [], Option, Some, None, Result, Ok, Err, ⊤}
+use Rattle.dimacs_syntax.specs.Cited.{AllByRecursion}
 use Rattle.qbf_text.specs.declared.grammar.Stop.{Stop}
 use Rattle.qbf_text.specs.declared.grammar.Stop.TheVariants as stop
 use Rattle.qrp.specs.declared.fault.TraceFault.{TraceFault}
-use Rattle.trace_items.specs.declared.item.Item.{Item}
-use Rattle.trace_items.specs.declared.item.Item.TheVariants as item
 use Rattle.qrp.specs.declared.states.State as states
 use Rattle.qrp.specs.declared.states.State.TheVariants as at
 use Rattle.trace_items.specs.declared.parts.Lists.{Lists}
@@ -13,11 +11,10 @@ use Rattle.trace_items.specs.declared.parts.Part.{Part}
 use Rattle.trace_items.specs.declared.parts.Part.TheVariants as part
 use Rattle.trace_items.specs.Parts.{item_of, numbers_after, IsComplete, IsNew, Stays}
 use Rattle.trace_items.specs.Antecedents.{list_of_pair}
-use Rattle.trace_items.specs.Inferences.{IsLiteral, IsNumber}
+use Rattle.trace_items.specs.Inferences.{IsLiteral}
 use Rattle.qbf_text.specs.Rows.{Goes, Ends, Fails}
 use Rattle.qbf_text.specs.TakenNumbers.{LeadsOver, EndsOver}
 use Rattle.qrp.specs.Reading.{State, Row, row, InHeader, Between, InSet, InLits, InAnts, AtResult, After}
-use Rattle.step_index.specs.Numbers.{is_used}
 
 -- the state of reading with these lists
 abbrev pub state_at : Lists → states.State → State

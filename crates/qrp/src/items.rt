@@ -14,7 +14,7 @@ use qbf_tokens::Token;
 use std::alloc::{AllocError, Global};
 use std::marker::Model;
 use std::mem;
-use trace_items::{Item, LentLists, Lists, Part, Parts, QuantSet, Step};
+use trace_items::{Item, LentLists, Part, Parts, QuantSet, Step};
 use window_numbers::{Values, Zeros};
 
 /// A trace whose parts are given one after the other.

@@ -2,7 +2,7 @@
 //!
 //! - Owns: texts of traces.
 //! - Offers: `TraceReader`, `read_trace`, `read_flat`, `read_compact`; `write_trace`,
-//!   `write_steps_at`, `write_framed`, `write_framed_at`; and the items of a trace.
+//!   `write_steps_at`, `write_framed`, `write_framed_at`.
 //! - Proved: exactly the trace that the bytes spell, or exactly the first fault and its line, whole
 //!   and item by item; the canonical text.
 //! - Read first: `TraceReader::next_item`, `read_trace`, `write_trace`, `write_steps_at`,
@@ -28,9 +28,4 @@ pub use fault::TraceFault;
 pub use laws::{item_laws, trace_laws};
 pub use reader::TraceReader;
 pub use reading::{read_compact, read_trace, read_trace as read_flat};
-pub use step_index::StepIndex;
-pub use trace_items::{
-    Antecedents, FlatSets, Header, Item, KeptSets, KeptSteps, LentSets, LentSteps, Outcome,
-    QuantSet, Step, Steps,
-};
 pub use writing::{Frame, write_framed, write_framed_at, write_steps_at, write_trace};

@@ -1,6 +1,6 @@
 //! Traces that are read as a whole.
 
-ghost use Rattle.std.specs.Prelude.{◌≡◌, IfSome, IfOk};
+ghost use Rattle.std.specs.Prelude.{IfSome, IfOk};
 ghost use Rattle.qbf_text.specs.Stopping.{IfKnown};
 ghost use Rattle.qbf_tokens.specs.Tokens.{tokens};
 ghost use Rattle.qbf_text.specs.WholeTexts.{TellsFailures};

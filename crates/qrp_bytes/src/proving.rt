@@ -14,10 +14,10 @@ ghost use Rattle.qrp_bytes.specs.Verdicts.{StructHeadline, VerifyReturns};
 
 use crate::verdict::{QrpVerdict, encode};
 use qbf_text::{SliceSource, VecSink};
-use qrp::{KeptSteps, write_steps_at};
+use qrp::write_steps_at;
 use qrp_check::{CheckFault, Fault, Rules, Verified, find_proof, find_truth};
 use std::alloc::{AllocError, Global};
-use trace_items::CompactTrace;
+use trace_items::{CompactTrace, KeptSteps};
 
 /// The truth that the trace in these bytes shows of the formula in those.
 ///

@@ -19,12 +19,12 @@ ghost use Rattle.trace_check.specs.declared.fault.CheckFault.TheVariants.{C5};
 ghost use Rattle.qbf_core.specs.WrittenLiterals.{literal_of};
 
 use qbf_core::Quantifier;
-use qrp::LentSteps;
 use qrp_bytes::{QrpVerdict, encode_fault, encode_nothing, encode_truth, numbers_at, put_numbers};
 use qrp_check::{CheckFault, Fault};
 use qrp_handle::{NOTHING, Proof, QrpProof, outcome_of, status_of};
 use qrp_rules::Rules;
 use std::alloc::Global;
+use trace_items::LentSteps;
 
 /// Makes a proof with no variable, no clause and no step.
 ///

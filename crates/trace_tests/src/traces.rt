@@ -12,7 +12,10 @@ use qrp::*;
 use std::alloc::Global;
 use std::process::Abort;
 use std::test::Fail;
-use trace_items::{CompactTrace, FlatTrace, Trace};
+use step_index::StepIndex;
+use trace_items::{
+    CompactTrace, FlatTrace, Header, Item, KeptSteps, Outcome, QuantSet, Step, Steps, Trace,
+};
 
 const TRACE: &[u8] =
     b"p qrp 2 5\ne 1 0\na 2 0\n1 1 2 0 0\n2 -1 2 0 0\n3 1 0 1 0\n4 -1 0 2 0\n5 0 3 4 0\nr unsat\n";
