@@ -1,5 +1,5 @@
 -- A trace that is read as a whole: each item that is complete is kept, and the next token is after it.
-use Rattle.std.specs.Prelude.{ℕ, List, Result, Ok, Err, ⊤}
+use Rattle.std.specs.Prelude.{Result, Ok, Err, ⊤}
 use Rattle.qbf_tokens.specs.declared.token.Token.{Token}
 use Rattle.qbf_text.specs.Rows.{Goes, Ends, Fails}
 use Rattle.qbf_text.specs.Rows as rows
