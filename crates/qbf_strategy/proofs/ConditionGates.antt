@@ -14,11 +14,10 @@ use Rattle.aiger.proofs.Folds.{constant_value, opposite_value}
 use Rattle.aiger.proofs.KeptGates.{grows_same, grows_then, next_grows, values_before}
 use Rattle.qbf_completeness.specs.Setting.{are_set}
 use Rattle.qbf_strategy.specs.Decisions.{wanted}
-use Rattle.qbf_strategy.specs.Assembling.{AllBelow, ArePlaced, Tells, all_true, wires_of}
+use Rattle.qbf_strategy.specs.Assembling.{AllBelow, ArePlaced, Tells, all_true}
 use Rattle.aiger.specs.Wires.{turned}
 use Rattle.qbf_strategy.specs.Conditions.{AreConditions, GivesCondition, IsCondition, IsConjunction, IsConjunctionBefore, IsDecided}
 use Rattle.qbf_strategy.specs.Conditions.{IsEither, KeptFrom, Scene, fires}
-use Rattle.qbf_strategy.specs.declared.placed.Placed.{Placed}
 use Rattle.qbf_strategy.proofs.ToldLiterals.{both_assoc, both_true, drop_at}
 
 -- ---- conjunctions
@@ -26,18 +25,11 @@ use Rattle.qbf_strategy.proofs.ToldLiterals.{both_assoc, both_true, drop_at}
 pub below_grown : (a b : Built) (ws : List Wire) → Grows a b → AllBelow (next_of a) ws → AllBelow (next_of b) ws
 below_grown a b ws g all k d less = let one = all k d less in let more = next_grows a b g in omega arith
 
-pub wire_at : (placed : List Placed) (i : ℕ) (p : Placed) → slice_get placed i ≡ Some p → slice_get (wires_of placed) i ≡ Some p.wire
-wire_at [] i p at = absurd (cc at)
-wire_at (q ∷ placed) zero p at = let e : q ≡ p = cc at in ap (λ (x : Placed). Some x.wire) e
-wire_at (q ∷ placed) (suc i) p at = wire_at placed i p at
-
-pub placed_below : (n : ℕ) (placed : List Placed) (i : ℕ) (p : Placed) → AllBelow n (wires_of placed) → slice_get placed i ≡ Some p
-    → p.wire.var < n
-placed_below n placed i p all at =
-    let there = wire_at placed i p at in
-    let less = slice_get_within (wires_of placed) i p.wire there in
-    let e : get_or (wires_of placed) i p.wire ≡ p.wire = get_or_from_slice_get (wires_of placed) i p.wire p.wire there in
-    subst (λ (w : Wire). w.var < n) e (all i p.wire less)
+pub below_at : (n : ℕ) (ws : List Wire) (i : ℕ) (w : Wire) → AllBelow n ws → slice_get ws i ≡ Some w → w.var < n
+below_at n ws i w all at =
+    let less = slice_get_within ws i w at in
+    let e : get_or ws i w ≡ w = get_or_from_slice_get ws i w w at in
+    subst (λ (x : Wire). x.var < n) e (all i w less)
 
 pub conjunction_first : (b : Built) (ws : List Wire) (w : Wire) → w ≡ constant true → 0 < next_of b → IsConjunctionBefore b b ws 0 w
 conjunction_first b ws w is some = subst (λ (x : Wire). IsConjunctionBefore b b ws 0 x) (sym is) (record {
@@ -48,42 +40,33 @@ conjunction_first b ws w is some = subst (λ (x : Wire). IsConjunctionBefore b b
   few = omega arith;
 })
 
-pub conjunction_next : (old now new : Built) (placed : List Placed) (i : ℕ) (w more : Wire) (p : Placed) → slice_get placed i ≡ Some p
-    → Grows now new → next_of new ≤ next_of now + 1 → more.var < next_of new → IsBoth new w p.wire more
-    → IsConjunctionBefore old now (wires_of placed) i w → IsConjunctionBefore old new (wires_of placed) (i + 1) more
-conjunction_next old now new placed i w more p at grows one below is before = record {
+pub conjunction_next : (old now new : Built) (ws : List Wire) (i : ℕ) (w more x : Wire) → slice_get ws i ≡ Some x
+    → Grows now new → next_of new ≤ next_of now + 1 → more.var < next_of new → IsBoth new w x more
+    → IsConjunctionBefore old now ws i w → IsConjunctionBefore old new ws (i + 1) more
+conjunction_next old now new ws i w more x at grows one below is before = record {
   grows = grows_then old now new before.grows grows;
   below = below;
   value = λ run has.
-      ap (λ (v : Bool). both v (all_true run (drop (i + 1) (wires_of placed)))) (is run has)
-      ∙ (both_assoc (value_at run w) (value_at run p.wire) (all_true run (drop (i + 1) (wires_of placed)))
+      ap (λ (v : Bool). both v (all_true run (drop (i + 1) ws))) (is run has)
+      ∙ (both_assoc (value_at run w) (value_at run x) (all_true run (drop (i + 1) ws))
       ∙ (ap (λ (rest : List Wire). both (value_at run w) (all_true run rest))
-      (sym (drop_at (wires_of placed) i p.wire (wire_at placed i p at)))
+      (sym (drop_at ws i x at))
       ∙ before.value run (values_before now new run grows has)));
   count = let count = before.count in omega (arith, one, count);
-  few =
-      let count = before.count in
-      let less = slice_get_within (wires_of placed) i p.wire (wire_at placed i p at) in omega (arith, one, count, less);
+  few = let count = before.count in let less = slice_get_within ws i x at in omega (arith, one, count, less);
 }
 
-pub length_wires : (placed : List Placed) → length (wires_of placed) ≡ length placed
-length_wires [] = refl
-length_wires (p ∷ placed) = ap suc (length_wires placed)
-
-pub conjunction_all : (old new : Built) (placed : List Placed) (i : ℕ) (w : Wire) → length placed ≤ i
-    → IsConjunctionBefore old new (wires_of placed) i w → IsConjunction old new (wires_of placed) w
-conjunction_all old new placed i w past before =
-    let count = length_wires placed in
-    let over : length (wires_of placed) ≤ i = omega arith in
-    record {
-      grows = before.grows;
-      below = before.below;
-      value = λ run has.
-          sym (both_true (value_at run w))
-          ∙ (ap (λ (rest : List Wire). both (value_at run w) (all_true run rest)) (sym (drop_of_length-le (wires_of placed) over))
-          ∙ before.value run has);
-      few = before.few;
-    }
+pub conjunction_all : (old new : Built) (ws : List Wire) (i : ℕ) (w : Wire) → length ws ≤ i → IsConjunctionBefore old new ws i w
+    → IsConjunction old new ws w
+conjunction_all old new ws i w past before = record {
+  grows = before.grows;
+  below = before.below;
+  value = λ run has.
+      sym (both_true (value_at run w))
+      ∙ (ap (λ (rest : List Wire). both (value_at run w) (all_true run rest)) (sym (drop_of_length-le ws past))
+      ∙ before.value run has);
+  few = before.few;
+}
 
 -- ---- one of two values
 
@@ -142,11 +125,11 @@ fires_at at k lits b w here is run s has tells =
     is.value run s has tells
     ∙ ap (λ (ls : List Literal). are_set (map (wanted at.mine) ls) s) (sym (get_or_from_slice_get at.kept k lits [] here))
 
-pub condition_built : (at : Scene) (old new : Built) (k : ℕ) (lits : List Literal) (placed : List Placed) (before after : List Wire)
+pub condition_built : (at : Scene) (old new : Built) (k : ℕ) (lits : List Literal) (some before after : List Wire)
     (w : Wire)
-    → slice_get at.kept k ≡ Some lits → ArePlaced at.ps at.ws at.mine lits placed → IsConjunction old new (wires_of placed) w
+    → slice_get at.kept k ≡ Some lits → ArePlaced at.ps at.ws at.mine lits some → IsConjunction old new some w
     → AreConditions at old before → KeptFrom before after k w → GivesCondition at k old new after w
-condition_built at old new k lits placed before after w here are conjoined known keeps =
+condition_built at old new k lits some before after w here are conjoined known keeps =
     let is : IsCondition at new lits w = record {
       below = conjoined.below;
       value = λ run s has tells. conjoined.value run has ∙ are.tell run s tells;

@@ -14,3 +14,4 @@ pub mod ReadyDecisions
 pub mod PathValues
 pub mod TrimmedCircuit
 pub mod SameWins
+pub mod Reordered

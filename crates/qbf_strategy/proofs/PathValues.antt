@@ -15,8 +15,7 @@ use Rattle.aiger.proofs.TrimmedGates.{take_next}
 use Rattle.qbf_strategy.specs.declared.path.Path.{Path}
 use Rattle.qbf_strategy.specs.declared.path.Turn.{Turn}
 use Rattle.qbf_strategy.specs.declared.entries.Entry.{Entry}
-use Rattle.qbf_strategy.specs.declared.placed.Placed.{Placed}
-use Rattle.qbf_strategy.specs.Assembling.{AllBelow, ArePlaced, all_true, wires_of}
+use Rattle.qbf_strategy.specs.Assembling.{AllBelow, ArePlaced, all_true}
 use Rattle.qbf_strategy.specs.Chains.{Chain, evaluated}
 use Rattle.qbf_strategy.specs.Chosen.{HasChain, IsChosen}
 use Rattle.qbf_strategy.specs.Conditions.{AreConditions, IsConjunction, IsEither, IsReady, Scene, fires}
@@ -25,7 +24,7 @@ use Rattle.qbf_strategy.specs.Decisions.{wanted}
 use Rattle.qbf_strategy.specs.Paths.{HasTurned, IsChosenInside, IsEntered, IsMoved, IsSet, StandsBelow, TakesFirst, TurnsBelow}
 use Rattle.qbf_strategy.specs.Paths.{all_taken, inside, value_by}
 use Rattle.qbf_strategy.proofs.ChainedEntries.{chain_none, chain_some, chain_within}
-use Rattle.qbf_strategy.proofs.ConditionGates.{conditions_grown, length_wires}
+use Rattle.qbf_strategy.proofs.ConditionGates.{conditions_grown}
 use Rattle.qbf_strategy.proofs.ToldLiterals.{both_assoc, both_true, drop_at}
 
 -- ---- the wires of turns
@@ -146,23 +145,14 @@ pub takes_next : (ws : List Wire) (i : ℕ) (ts : List Turn) (t : Turn) → slic
 takes_next ws i ts t there at takes =
     takes_more ws i (take i ts) (take (i + 1) ts) t.wire at (record { turn = t; same = refl; more = take_next ts i t there }) takes
 
--- one place more that agrees is one of a literal
-pub agrees_next : (placed : List Placed) (i : ℕ) (w : Wire) → slice_get (wires_of placed) i ≡ Some w → i + 1 ≤ length placed
-agrees_next placed i w at =
-    let less = slice_get_within (wires_of placed) i w at in let count = length_wires placed in omega (arith, less, count)
+-- one place more that agrees is one of a wire
+pub agrees_next : (ws : List Wire) (i : ℕ) (w : Wire) → slice_get ws i ≡ Some w → i + 1 ≤ length ws
+agrees_next ws i w at = let less = slice_get_within ws i w at in omega (arith, less)
 
 pub turned_count : (on : Wire) (before after : List Turn) → HasTurned on before after → length after ≡ length before + 1
 turned_count on before after turned = ap length turned.more ∙ length-append before (turned.turn ∷ [])
 
 -- ---- an entry
-
-wires_map : (placed : List Placed) (i : ℕ) → wires_of (drop i placed) ≡ drop i (wires_of placed)
-wires_map placed zero = refl
-wires_map [] (suc i) = refl
-wires_map (p ∷ placed) (suc i) = wires_map placed i
-
-pub rest_wires : (placed : List Placed) (i : ℕ) → wires_of (take (length placed - i) (drop i placed)) ≡ drop i (wires_of placed)
-rest_wires placed i = ap wires_of (take_rest placed i) ∙ wires_map placed i
 
 -- the end of a path gets a value if the wires after the turns are all true
 pub set_is : (given : Bool) (old one two new : Built) (before first second after : Path) (c : Wire) (ws : List Wire) (until : ℕ)
@@ -191,34 +181,26 @@ set_is given old one two new before first second after c ws until left turned ta
       ∙ ap (λ (b : Bool). cond (all_true run ws) given b) (moved.value run has_one))));
 }
 
-pub entered : (at : Scene) (k : ℕ) (given : Bool) (old new : Built) (before after : Path) (lits : List Literal) (placed : List Placed)
-    → slice_get at.kept k ≡ Some lits → ArePlaced at.ps at.ws at.mine lits placed
-    → IsSet (wires_of placed) given old new before after → IsEntered at k given old new before after
-entered at k given old new before after lits placed here are is = record {
+pub entered : (at : Scene) (k : ℕ) (given : Bool) (old new : Built) (before after : Path) (lits : List Literal) (some : List Wire)
+    → slice_get at.kept k ≡ Some lits → ArePlaced at.ps at.ws at.mine lits some
+    → IsSet some given old new before after → IsEntered at k given old new before after
+entered at k given old new before after lits some here are is = record {
   grows = is.grows;
   below = is.below;
   value = λ run s has tells.
       let seen : get_or at.kept k [] ≡ lits = get_or_from_slice_get at.kept k lits [] here in
-      let holds : all_true run (wires_of placed) ≡ fires at s k =
+      let holds : all_true run some ≡ fires at s k =
       are.tell run s tells ∙ ap (λ (ls : List Literal). are_set (map (wanted at.mine) ls) s) (sym seen) in
       is.value run has ∙ ap (λ (b : Bool). cond b given (value_by run before)) holds;
 }
-
-pub below_at : (n : ℕ) (ws : List Wire) (i : ℕ) (w : Wire) → AllBelow n ws → slice_get ws i ≡ Some w → w.var < n
-below_at n ws i w all at =
-    let less = slice_get_within ws i w at in
-    let e : get_or ws i w ≡ w = get_or_from_slice_get ws i w w at in
-    subst (λ (x : Wire). x.var < n) e (all i w less)
 
 below_drop : (n i : ℕ) (ws : List Wire) → AllBelow n ws → AllBelow n (drop i ws)
 below_drop n zero ws all = all
 below_drop n (suc i) [] all = all
 below_drop n (suc i) (w ∷ ws) all = below_drop n i ws (λ k d less. all (suc k) d (omega (arith, less)))
 
-pub below_rest : (n i : ℕ) (placed : List Placed) → AllBelow n (wires_of placed)
-    → AllBelow n (wires_of (take (length placed - i) (drop i placed)))
-below_rest n i placed all =
-    subst (λ (ws : List Wire). AllBelow n ws) (sym (rest_wires placed i)) (below_drop n i (wires_of placed) all)
+pub below_rest : (n i : ℕ) (ws : List Wire) → AllBelow n ws → AllBelow n (take (length ws - i) (drop i ws))
+below_rest n i ws all = subst (λ (rest : List Wire). AllBelow n rest) (sym (take_rest ws i)) (below_drop n i ws all)
 
 -- ---- all entries of a variable
 

@@ -7,7 +7,6 @@ use Rattle.qbf_core.specs.Literal.{Literal}
 use Rattle.qbf_core.specs.Members.{◌∈◌}
 use Rattle.aiger.specs.Circuits.{both}
 use Rattle.aiger.specs.Wires.{Wire, turned, value_at}
-use Rattle.qbf_strategy.specs.declared.placed.Placed.{Placed}
 use Rattle.qbf_completeness.specs.Setting.{are_set, is_set}
 use Rattle.qbf_strategy.specs.Decisions.{wanted}
 
@@ -52,22 +51,18 @@ abbrev pub TellWithRest : List (Quantifier × ℕ) → List Wire → Quantifier 
 TellWithRest ps ws mine lits i some = (run : ℕ → Bool) (s : List Literal) → Tells ps ws run s
     → both (all_true run some) (are_set (map (wanted mine) (drop i lits)) s) ≡ are_set (map (wanted mine) lits) s
 
--- the wires of placed literals
-abbrev pub wires_of : List Placed → List Wire
-wires_of placed = map (λ p. p.wire) placed
-
--- literals are placed, as the player wants them, but for those from place i on; no more than there are
+-- these wires are those of literals, as the player wants them, but for the literals from place i on; no more than there are
 pub record ArePlacedBefore (ps : List (Quantifier
-    × ℕ)) (ws : List Wire) (mine : Quantifier) (lits : List Literal) (i : ℕ) (placed : List Placed)
+    × ℕ)) (ws : List Wire) (mine : Quantifier) (lits : List Literal) (i : ℕ) (some : List Wire)
     : Type 0 where
-  pub tell : TellWithRest ps ws mine lits i (wires_of placed)
-  pub below : (n : ℕ) → AllBelow n ws → AllBelow n (wires_of placed)
-  pub count : length (wires_of placed) ≤ i
-  pub few : length (wires_of placed) ≤ length lits
+  pub tell : TellWithRest ps ws mine lits i some
+  pub below : (n : ℕ) → AllBelow n ws → AllBelow n some
+  pub count : length some ≤ i
+  pub few : length some ≤ length lits
 
--- all literals are placed, as the player wants them
+-- these wires are those of literals, as the player wants them
 pub record ArePlaced (ps : List (Quantifier
-    × ℕ)) (ws : List Wire) (mine : Quantifier) (lits : List Literal) (placed : List Placed) : Type 0 where
-  pub tell : TellAll ps ws (map (wanted mine) lits) (wires_of placed)
-  pub below : (n : ℕ) → AllBelow n ws → AllBelow n (wires_of placed)
-  pub few : length (wires_of placed) ≤ length lits
+    × ℕ)) (ws : List Wire) (mine : Quantifier) (lits : List Literal) (some : List Wire) : Type 0 where
+  pub tell : TellAll ps ws (map (wanted mine) lits) some
+  pub below : (n : ℕ) → AllBelow n ws → AllBelow n some
+  pub few : length some ≤ length lits

@@ -8,3 +8,4 @@ pub mod Costs
 pub mod Chosen
 pub mod Laws
 pub mod Paths
+pub mod Ordering

@@ -12,6 +12,7 @@ ghost use Rattle.qbf_strategy.specs.Computing.{Computes, SeesBefore, size};
 ghost use Rattle.qbf_strategy.specs.Conditions.{scene};
 ghost use Rattle.qbf_strategy.specs.Costs.{cost_all, cost_among};
 ghost use Rattle.qbf_strategy.specs.Decisions.{decisions_by};
+ghost use Rattle.qbf_strategy.specs.Ordering.{AreReordered};
 ghost use Rattle.qbf_strategy.specs.Winning.{opponent, variables_of};
 
 use crate::chosen::chosen;
@@ -19,10 +20,12 @@ use crate::conditions::Work;
 use crate::counts::Counts;
 use crate::decisions::Decisions;
 use crate::entries::Entries;
+use crate::order::{Order, reordered};
 use crate::placed::{Here, Task};
 use crate::places::Places;
 use aiger::{Circuit, GateFault, Output, Wire, trimmed};
-use qbf_core::{Prefix, Quantifier, Var};
+use lists::GrowingLists;
+use qbf_core::{Lit, Prefix, Quantifier, Var};
 use std::alloc::{AllocError, Global};
 
 /// The quantifier of the other player.
@@ -118,21 +121,21 @@ impl Assembly {
     /// Gives the next variable, one of the player, its output.
     fn add_output(&mut self, task: &Task, entries: &Entries, name: Var) -> Result<(), GateFault>
         requires assembled { AreAssembled task.now.mine
-            (pairs task.now.prefix.now) task.now.decisions.now.kept.whole
-            task.now.decisions.now.removed.whole task.now.plain self.old }
+            (pairs task.now.prefix.now) task.now.kept.now.whole
+            task.now.removed.now.whole task.now.plain self.old }
         requires place { length self.old.known.items < length entries.now.heads.items }
         requires chain { (last : ℕ)
             → slice_get entries.now.heads.items (length self.old.known.items) ≡ Some last
             → HasChain (scene task.now.mine (pairs task.now.prefix.now) self.old.known.items
-            task.now.decisions.now.kept.whole) entries.now.entries.items last }
+            task.now.kept.now.whole) entries.now.entries.items last }
         ensures adds { OnOk result (AddsOutput task.now.mine (pairs task.now.prefix.now)
-            task.now.decisions.now.kept.whole task.now.plain entries.now name self.old self.new) }
+            task.now.kept.now.whole task.now.plain entries.now name self.old self.new) }
         ensures long { IsErrOf result GateFault.TooLong → task.now.plain ≡ true
             → (last v : ℕ) (said : Sayings)
             → slice_get entries.now.heads.items (length self.old.known.items) ≡ Some last
             → Chain entries.now.entries.items v last said
             → 2147483648 ≤ next_of self.old.work.gates
-            + cost_among task.now.decisions.now.kept.whole (v ∷ []) said }
+            + cost_among task.now.kept.now.whole (v ∷ []) said }
     {
         let last = entries.last(self.known.len());
         let here = Here {
@@ -151,23 +154,23 @@ impl Assembly {
     /// Gives the next variable its wire.
     fn add_variable(&mut self, task: &Task, entries: &Entries) -> Result<(), GateFault>
         requires assembled { AreAssembled task.now.mine
-            (pairs task.now.prefix.now) task.now.decisions.now.kept.whole
-            task.now.decisions.now.removed.whole task.now.plain self.old }
+            (pairs task.now.prefix.now) task.now.kept.now.whole
+            task.now.removed.now.whole task.now.plain self.old }
         requires entries { AreEntriesOf task.now.mine (pairs task.now.prefix.now)
-            task.now.decisions.now.kept.whole task.now.decisions.now.removed.whole entries.now }
+            task.now.kept.now.whole task.now.removed.now.whole entries.now }
         requires inputs { self.old.first
             ≡ length (variables_of (opponent task.now.mine) (pairs task.now.prefix.now)) + 1 }
         requires place { length self.old.known.items < length (pairs task.now.prefix.now) }
         ensures assembled { OnOk result
             (AreAssembled task.now.mine
-            (pairs task.now.prefix.now) task.now.decisions.now.kept.whole
-            task.now.decisions.now.removed.whole task.now.plain self.new) }
+            (pairs task.now.prefix.now) task.now.kept.now.whole
+            task.now.removed.now.whole task.now.plain self.new) }
         ensures count { OnOk result (length self.new.known.items
             ≡ length self.old.known.items + 1) }
         ensures first { OnOk result (self.new.first ≡ self.old.first) }
         ensures long { IsErrOf result GateFault.TooLong → task.now.plain ≡ true
-            → 2147483648 ≤ self.old.first + cost_all task.now.decisions.now.kept.whole
-            (with_lists task.now.mine 0 task.now.decisions.now.removed.whole []) }
+            → 2147483648 ≤ self.old.first + cost_all task.now.kept.now.whole
+            (with_lists task.now.mine 0 task.now.removed.now.whole []) }
     {
         let (quantifier, name) = task.prefix.pair(self.known.len());
         if is_quantifier(quantifier, task.mine) {
@@ -187,19 +190,19 @@ fn assemble(
     inputs: usize,
 ) -> Result<Assembly, GateFault>
     requires entries { AreEntriesOf task.now.mine (pairs task.now.prefix.now)
-        task.now.decisions.now.kept.whole task.now.decisions.now.removed.whole entries.now }
+        task.now.kept.now.whole task.now.removed.now.whole entries.now }
     requires inputs { inputs
         ≡ length (variables_of (opponent task.now.mine) (pairs task.now.prefix.now)) }
     ensures assembled { IfOk result
-        (AreAssembled task.now.mine (pairs task.now.prefix.now) task.now.decisions.now.kept.whole
-        task.now.decisions.now.removed.whole task.now.plain) }
+        (AreAssembled task.now.mine (pairs task.now.prefix.now) task.now.kept.now.whole
+        task.now.removed.now.whole task.now.plain) }
     ensures count { IfOk result (λ a. length a.known.items ≡ length (pairs task.now.prefix.now)) }
     ensures first { IfOk result (λ a. a.first ≡ inputs + 1) }
     ensures long { IsErrOf result GateFault.TooLong → task.now.plain ≡ true → 2147483647 ≤ inputs
-        + cost_all task.now.decisions.now.kept.whole
-        (with_lists task.now.mine 0 task.now.decisions.now.removed.whole []) }
+        + cost_all task.now.kept.now.whole
+        (with_lists task.now.mine 0 task.now.removed.now.whole []) }
 {
-    let mut assembly = Assembly::new(alloc, inputs, task.decisions.kept.whole_len())?;
+    let mut assembly = Assembly::new(alloc, inputs, task.kept.whole_len())?;
     for _place in 0..task.prefix.len() {
         assembly.add_variable(task, entries)?;
     }
@@ -213,37 +216,26 @@ struct Plan<'a> {
     prefix: &'a Prefix,
     /// The quantifier of the player.
     mine: Quantifier,
-    /// The decisions.
-    decisions: &'a Decisions,
+    /// The literals that each decision sees.
+    kept: &'a GrowingLists<Lit>,
+    /// The literals that each decision sets.
+    removed: &'a GrowingLists<Lit>,
 }
 
-/// The circuit of decisions, with all gates that were put, along paths or by plain chains.
-fn whole_circuit(alloc: Global, plan: &Plan, plain: bool) -> Result<Circuit, GateFault>
-    requires few { length plan.now.decisions.now.removed.whole
-        ≤ length plan.now.decisions.now.kept.whole }
-    requires sees { SeesBefore (pairs plan.now.prefix.now) (decisions_by plan.now.mine
-        plan.now.decisions.now.kept.whole plan.now.decisions.now.removed.whole) }
-    ensures computes { IfOk result (λ c. Computes plan.now.mine (pairs plan.now.prefix.now)
-        (decisions_by plan.now.mine plan.now.decisions.now.kept.whole
-        plan.now.decisions.now.removed.whole) c) }
-    ensures long { IsErrOf result GateFault.TooLong → plain ≡ true → 2147483647
-        ≤ length (variables_of (opponent plan.now.mine) (pairs plan.now.prefix.now))
-        + size (decisions_by plan.now.mine plan.now.decisions.now.kept.whole
-        plan.now.decisions.now.removed.whole) }
+/// The circuit of decisions, with all gates that were put.
+fn whole_circuit(alloc: Global, task: &Task) -> Result<Circuit, GateFault>
+    requires few { length task.now.removed.now.whole ≤ length task.now.kept.now.whole }
+    requires sees { SeesBefore (pairs task.now.prefix.now) (decisions_by task.now.mine
+        task.now.kept.now.whole task.now.removed.now.whole) }
+    ensures computes { IfOk result (λ c. Computes task.now.mine (pairs task.now.prefix.now)
+        (decisions_by task.now.mine task.now.kept.now.whole task.now.removed.now.whole) c) }
+    ensures long { IsErrOf result GateFault.TooLong → task.now.plain ≡ true → 2147483647
+        ≤ length (variables_of (opponent task.now.mine) (pairs task.now.prefix.now))
+        + size (decisions_by task.now.mine task.now.kept.now.whole task.now.removed.now.whole) }
 {
-    let inputs = variables_of(alloc, plan.prefix, opponent(plan.mine))?;
-    let places = Places::new(alloc, plan.prefix)?;
-    let counts = Counts::new(alloc, plan.prefix, &places, plan.decisions)?;
-    let task = Task {
-        mine: plan.mine,
-        prefix: plan.prefix,
-        places: &places,
-        decisions: plan.decisions,
-        counts: &counts,
-        plain,
-    };
-    let entries = Entries::new(alloc, &task)?;
-    let assembly = assemble(alloc, &task, &entries, inputs.len())?;
+    let inputs = variables_of(alloc, task.prefix, opponent(task.mine))?;
+    let entries = Entries::new(alloc, task)?;
+    let assembly = assemble(alloc, task, &entries, inputs.len())?;
     Ok(Circuit {
         inputs,
         outputs: assembly.outputs,
@@ -251,21 +243,64 @@ fn whole_circuit(alloc: Global, plan: &Plan, plain: bool) -> Result<Circuit, Gat
     })
 }
 
-/// The same, without the gates that no output needs.
-fn trimmed_circuit(alloc: Global, plan: &Plan, plain: bool) -> Result<Circuit, GateFault>
-    requires few { length plan.now.decisions.now.removed.whole
-        ≤ length plan.now.decisions.now.kept.whole }
+/// The literals that each decision sees, in the order in which paths or plain chains take them.
+fn ordered(
+    alloc: Global,
+    plan: &Plan,
+    places: &Places,
+    plain: bool,
+) -> Result<GrowingLists<Lit>, AllocError>
+    ensures { IfOk result (λ lists. AreReordered plan.now.kept.now.whole lists.whole) }
+{
+    let counts = Counts::new(alloc, plan.prefix, places, plan.kept)?;
+    let order = Order {
+        prefix: plan.prefix,
+        places,
+        counts: &counts,
+        plain,
+    };
+    reordered(alloc, &order, plan.kept)
+}
+
+/// The circuit of decisions, with all gates that were put, along paths or by plain chains.
+fn planned_circuit(alloc: Global, plan: &Plan, plain: bool) -> Result<Circuit, GateFault>
+    requires few { length plan.now.removed.now.whole ≤ length plan.now.kept.now.whole }
     requires sees { SeesBefore (pairs plan.now.prefix.now) (decisions_by plan.now.mine
-        plan.now.decisions.now.kept.whole plan.now.decisions.now.removed.whole) }
+        plan.now.kept.now.whole plan.now.removed.now.whole) }
     ensures computes { IfOk result (λ c. Computes plan.now.mine (pairs plan.now.prefix.now)
-        (decisions_by plan.now.mine plan.now.decisions.now.kept.whole
-        plan.now.decisions.now.removed.whole) c) }
+        (decisions_by plan.now.mine plan.now.kept.now.whole plan.now.removed.now.whole) c) }
     ensures long { IsErrOf result GateFault.TooLong → plain ≡ true → 2147483647
         ≤ length (variables_of (opponent plan.now.mine) (pairs plan.now.prefix.now))
-        + size (decisions_by plan.now.mine plan.now.decisions.now.kept.whole
-        plan.now.decisions.now.removed.whole) }
+        + size (decisions_by plan.now.mine plan.now.kept.now.whole plan.now.removed.now.whole) }
 {
-    let circuit = whole_circuit(alloc, plan, plain)?;
+    let places = Places::new(alloc, plan.prefix)?;
+    let kept = ordered(alloc, plan, &places, plain)?;
+    let task = Task {
+        mine: plan.mine,
+        prefix: plan.prefix,
+        places: &places,
+        kept: &kept,
+        removed: plan.removed,
+        plain,
+    };
+    whole_circuit(alloc, &task)
+}
+
+/// The same, without the gates that no output needs.
+fn trimmed_circuit(alloc: Global, plan: &Plan, plain: bool) -> Result<Circuit, GateFault>
+    requires few { length plan.now.removed.now.whole
+        ≤ length plan.now.kept.now.whole }
+    requires sees { SeesBefore (pairs plan.now.prefix.now) (decisions_by plan.now.mine
+        plan.now.kept.now.whole plan.now.removed.now.whole) }
+    ensures computes { IfOk result (λ c. Computes plan.now.mine (pairs plan.now.prefix.now)
+        (decisions_by plan.now.mine plan.now.kept.now.whole
+        plan.now.removed.now.whole) c) }
+    ensures long { IsErrOf result GateFault.TooLong → plain ≡ true → 2147483647
+        ≤ length (variables_of (opponent plan.now.mine) (pairs plan.now.prefix.now))
+        + size (decisions_by plan.now.mine plan.now.kept.now.whole
+        plan.now.removed.now.whole) }
+{
+    let circuit = planned_circuit(alloc, plan, plain)?;
     Ok(trimmed(alloc, circuit)?)
 }
 
@@ -283,22 +318,22 @@ fn smaller(one: Circuit, other: Circuit) -> Circuit
 /// A circuit along paths, or that by plain chains if this is smaller. Chains are tried only if
 /// decisions are few: of many, paths have much in common.
 fn or_chains(alloc: Global, plan: &Plan, by_paths: Circuit) -> Result<Circuit, GateFault>
-    requires few { length plan.now.decisions.now.removed.whole
-        ≤ length plan.now.decisions.now.kept.whole }
+    requires few { length plan.now.removed.now.whole
+        ≤ length plan.now.kept.now.whole }
     requires sees { SeesBefore (pairs plan.now.prefix.now) (decisions_by plan.now.mine
-        plan.now.decisions.now.kept.whole plan.now.decisions.now.removed.whole) }
+        plan.now.kept.now.whole plan.now.removed.now.whole) }
     requires computes { Computes plan.now.mine (pairs plan.now.prefix.now)
-        (decisions_by plan.now.mine plan.now.decisions.now.kept.whole
-        plan.now.decisions.now.removed.whole) by_paths }
+        (decisions_by plan.now.mine plan.now.kept.now.whole
+        plan.now.removed.now.whole) by_paths }
     ensures computes { IfOk result (λ c. Computes plan.now.mine (pairs plan.now.prefix.now)
-        (decisions_by plan.now.mine plan.now.decisions.now.kept.whole
-        plan.now.decisions.now.removed.whole) c) }
+        (decisions_by plan.now.mine plan.now.kept.now.whole
+        plan.now.removed.now.whole) c) }
     ensures long { IsErrOf result GateFault.TooLong → 2147483647
         ≤ length (variables_of (opponent plan.now.mine) (pairs plan.now.prefix.now))
-        + size (decisions_by plan.now.mine plan.now.decisions.now.kept.whole
-        plan.now.decisions.now.removed.whole) }
+        + size (decisions_by plan.now.mine plan.now.kept.now.whole
+        plan.now.removed.now.whole) }
 {
-    if plan.decisions.kept.whole_len() > 1000 {
+    if plan.kept.whole_len() > 1000 {
         return Ok(by_paths);
     }
     let by_chains = trimmed_circuit(alloc, plan, true)?;
@@ -336,7 +371,8 @@ pub fn circuit_of(
     let plan = Plan {
         prefix,
         mine,
-        decisions,
+        kept: &decisions.kept,
+        removed: &decisions.removed,
     };
     match trimmed_circuit(alloc, &plan, false) {
         Ok(by_paths) => or_chains(alloc, &plan, by_paths),

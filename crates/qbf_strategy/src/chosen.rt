@@ -13,7 +13,7 @@ ghost use Rattle.qbf_strategy.specs.Paths.{IsEntered, StandsBelow};
 
 use crate::conditions::{Work, decided};
 use crate::entries::{Entries, Entry};
-use crate::placed::{Here, place_literals};
+use crate::placed::{Here, put_wires};
 use aiger::{GateFault, Wire};
 
 /// The value of the last entry. If no condition holds, any value will do, and with this one the
@@ -31,20 +31,20 @@ fn value_of_last(entries: &Entries, last: u32) -> bool
 /// gate for each entry, and the gates of each condition once.
 fn chained(here: &Here, work: &mut Work, entries: &Entries, last: u32) -> Result<Wire, GateFault>
     requires chain { HasChain (scene here.now.task.mine (pairs here.now.task.prefix.now)
-        here.now.known.now here.now.task.decisions.now.kept.whole) entries.now.entries.items last }
+        here.now.known.now here.now.task.kept.now.whole) entries.now.entries.items last }
     requires below { AllBelow (next_of work.old.gates) here.now.known.now }
     requires known { AreConditions (scene here.now.task.mine (pairs here.now.task.prefix.now)
-        here.now.known.now here.now.task.decisions.now.kept.whole) work.old.gates
+        here.now.known.now here.now.task.kept.now.whole) work.old.gates
         work.old.conditions.items }
     ensures value { IfOk result (IsChosen (scene here.now.task.mine (pairs here.now.task.prefix.now)
-        here.now.known.now here.now.task.decisions.now.kept.whole) entries.now.entries.items last
+        here.now.known.now here.now.task.kept.now.whole) entries.now.entries.items last
         true work.old.gates work.new.gates work.new.conditions.items) }
     ensures any { IfOk result (IsChosen (scene here.now.task.mine (pairs here.now.task.prefix.now)
-        here.now.known.now here.now.task.decisions.now.kept.whole) entries.now.entries.items last
+        here.now.known.now here.now.task.kept.now.whole) entries.now.entries.items last
         false work.old.gates work.new.gates work.new.conditions.items) }
     ensures long { IsErrOf result GateFault.TooLong → (v : ℕ) (said : Sayings)
         → Chain entries.now.entries.items v last said → 2147483648 ≤ next_of work.old.gates
-        + cost_among here.now.task.decisions.now.kept.whole (v ∷ []) said }
+        + cost_among here.now.task.kept.now.whole (v ∷ []) said }
 {
     let otherwise = value_of_last(entries, last);
     let mut wire = work.gates.constant(otherwise);
@@ -61,31 +61,31 @@ fn chained(here: &Here, work: &mut Work, entries: &Entries, last: u32) -> Result
 /// that it had if the condition fails.
 fn enter(here: &Here, work: &mut Work, entry: &Entry) -> Result<(), GateFault>
     requires ready { IsReady (scene here.now.task.mine (pairs here.now.task.prefix.now)
-        here.now.known.now here.now.task.decisions.now.kept.whole) entry.now.decision }
+        here.now.known.now here.now.task.kept.now.whole) entry.now.decision }
     requires below { AllBelow (next_of work.old.gates) here.now.known.now }
     requires path { StandsBelow (next_of work.old.gates) work.old.path }
     ensures entered { OnOk result (IsEntered (scene here.now.task.mine (pairs here.now.task.prefix.now)
-        here.now.known.now here.now.task.decisions.now.kept.whole) entry.now.decision entry.now.value
+        here.now.known.now here.now.task.kept.now.whole) entry.now.decision entry.now.value
         work.old.gates work.new.gates work.old.path work.new.path) }
     ensures conditions { work.new.conditions.items ≡ work.old.conditions.items }
 {
-    let kept = here.task.decisions.kept.get(entry.decision as usize);
+    let kept = here.task.kept.get(entry.decision as usize);
     work.looked_at = work.looked_at.saturating_add(kept.len());
-    place_literals(here, kept, &mut work.placed)?;
-    work.path.set(&mut work.gates, &work.placed, entry.value)
+    put_wires(here, kept, &mut work.wires)?;
+    work.path.set(&mut work.gates, &work.wires, entry.value)
 }
 
 /// The same, along a path: entries whose conditions have literals in common share the gates that
 /// choose by these.
 fn branched(here: &Here, work: &mut Work, entries: &Entries, last: u32) -> Result<Wire, GateFault>
     requires chain { HasChain (scene here.now.task.mine (pairs here.now.task.prefix.now)
-        here.now.known.now here.now.task.decisions.now.kept.whole) entries.now.entries.items last }
+        here.now.known.now here.now.task.kept.now.whole) entries.now.entries.items last }
     requires below { AllBelow (next_of work.old.gates) here.now.known.now }
     requires known { AreConditions (scene here.now.task.mine (pairs here.now.task.prefix.now)
-        here.now.known.now here.now.task.decisions.now.kept.whole) work.old.gates
+        here.now.known.now here.now.task.kept.now.whole) work.old.gates
         work.old.conditions.items }
     ensures { IfOk result (IsChosen (scene here.now.task.mine (pairs here.now.task.prefix.now)
-        here.now.known.now here.now.task.decisions.now.kept.whole) entries.now.entries.items last
+        here.now.known.now here.now.task.kept.now.whole) entries.now.entries.items last
         false work.old.gates work.new.gates work.new.conditions.items) }
 {
     let otherwise = value_of_last(entries, last);
@@ -104,19 +104,19 @@ fn branched(here: &Here, work: &mut Work, entries: &Entries, last: u32) -> Resul
 /// all decisions see. A chain builds each condition once, and a path looks at it for each literal
 /// that its decision sets.
 fn is_spent(here: &Here, work: &Work) -> bool {
-    work.looked_at / 64 > here.task.counts.all()
+    work.looked_at / 64 > here.task.kept.items_len()
 }
 
 /// The same, along a path as long as this is worth it.
 fn shared(here: &Here, work: &mut Work, entries: &Entries, last: u32) -> Result<Wire, GateFault>
     requires chain { HasChain (scene here.now.task.mine (pairs here.now.task.prefix.now)
-        here.now.known.now here.now.task.decisions.now.kept.whole) entries.now.entries.items last }
+        here.now.known.now here.now.task.kept.now.whole) entries.now.entries.items last }
     requires below { AllBelow (next_of work.old.gates) here.now.known.now }
     requires known { AreConditions (scene here.now.task.mine (pairs here.now.task.prefix.now)
-        here.now.known.now here.now.task.decisions.now.kept.whole) work.old.gates
+        here.now.known.now here.now.task.kept.now.whole) work.old.gates
         work.old.conditions.items }
     ensures { IfOk result (IsChosen (scene here.now.task.mine (pairs here.now.task.prefix.now)
-        here.now.known.now here.now.task.decisions.now.kept.whole) entries.now.entries.items last
+        here.now.known.now here.now.task.kept.now.whole) entries.now.entries.items last
         false work.old.gates work.new.gates work.new.conditions.items) }
 {
     if is_spent(here, work) {
@@ -129,18 +129,18 @@ fn shared(here: &Here, work: &mut Work, entries: &Entries, last: u32) -> Result<
 /// The wire of what is decided by the entries from this one back to the first of its variable.
 pub fn chosen(here: &Here, work: &mut Work, entries: &Entries, last: u32) -> Result<Wire, GateFault>
     requires chain { HasChain (scene here.now.task.mine (pairs here.now.task.prefix.now)
-        here.now.known.now here.now.task.decisions.now.kept.whole) entries.now.entries.items last }
+        here.now.known.now here.now.task.kept.now.whole) entries.now.entries.items last }
     requires below { AllBelow (next_of work.old.gates) here.now.known.now }
     requires known { AreConditions (scene here.now.task.mine (pairs here.now.task.prefix.now)
-        here.now.known.now here.now.task.decisions.now.kept.whole) work.old.gates
+        here.now.known.now here.now.task.kept.now.whole) work.old.gates
         work.old.conditions.items }
     ensures value { IfOk result (IsChosen (scene here.now.task.mine (pairs here.now.task.prefix.now)
-        here.now.known.now here.now.task.decisions.now.kept.whole) entries.now.entries.items last
+        here.now.known.now here.now.task.kept.now.whole) entries.now.entries.items last
         here.now.task.plain work.old.gates work.new.gates work.new.conditions.items) }
     ensures long { IsErrOf result GateFault.TooLong → here.now.task.plain ≡ true → (v : ℕ)
         (said : Sayings)
         → Chain entries.now.entries.items v last said → 2147483648 ≤ next_of work.old.gates
-        + cost_among here.now.task.decisions.now.kept.whole (v ∷ []) said }
+        + cost_among here.now.task.kept.now.whole (v ∷ []) said }
 {
     if here.task.plain {
         chained(here, work, entries, last)

@@ -6,14 +6,14 @@ ghost use Rattle.std.specs.Result.{IsErrOf};
 ghost use Rattle.qbf_core.specs.Blocks.{pairs};
 ghost use Rattle.aiger.specs.Building.{next_of};
 ghost use Rattle.aiger.specs.Wires.{constant};
-ghost use Rattle.qbf_strategy.specs.Assembling.{AllBelow, wires_of};
+ghost use Rattle.qbf_strategy.specs.Assembling.{AllBelow};
 ghost use Rattle.qbf_strategy.specs.Conditions.{AreConditions, GivesCondition, IsConjunction};
 ghost use Rattle.qbf_strategy.specs.Conditions.{IsDecided, IsEither, IsReady, IsUnused, KeptFrom, scene};
 ghost use Rattle.qbf_strategy.specs.Costs.{cost};
 
 use crate::entries::Entry;
 use crate::path::Path;
-use crate::placed::{Here, Placed, place_literals};
+use crate::placed::{Here, put_wires};
 use aiger::{Builder, GateFault, Wire};
 use std::alloc::{AllocError, Global};
 
@@ -24,8 +24,8 @@ pub struct Work {
     pub gates: Builder,
     /// The wire of each decision's condition, or the constant false if it was not built.
     pub conditions: Vec<Wire>,
-    /// The literals of the condition that is being built.
-    pub placed: Vec<Placed>,
+    /// The wires of the condition that is being built.
+    pub wires: Vec<Wire>,
     /// The path at whose end the wire of a variable is changed.
     pub path: Path,
     /// How many literals of conditions were looked at for paths.
@@ -33,17 +33,17 @@ pub struct Work {
 }
 
 /// The wire of the conjunction of wires.
-pub fn conjunction(gates: &mut Builder, placed: &[Placed]) -> Result<Wire, GateFault>
-    requires { AllBelow (next_of gates.old) (wires_of placed.now) }
-    ensures value { IfOk result (IsConjunction gates.old gates.new (wires_of placed.now)) }
+pub fn conjunction(gates: &mut Builder, wires: &[Wire]) -> Result<Wire, GateFault>
+    requires { AllBelow (next_of gates.old) wires.now }
+    ensures value { IfOk result (IsConjunction gates.old gates.new wires.now) }
     ensures long { IsErrOf result GateFault.TooLong
-        → 2147483648 ≤ next_of gates.old + length (wires_of placed.now) }
+        → 2147483648 ≤ next_of gates.old + length wires.now }
 {
-    let mut wire = gates.constant(true);
-    for literal in placed {
-        wire = gates.and(wire, literal.wire)?;
+    let mut all = gates.constant(true);
+    for wire in wires {
+        all = gates.and(all, *wire)?;
     }
-    Ok(wire)
+    Ok(all)
 }
 
 /// The wire that has this value if a condition holds, and else that of another wire.
@@ -72,7 +72,7 @@ impl Work {
         Ok(Work {
             gates: Builder::new(alloc, first),
             conditions: vec![in alloc; Wire::constant(false); decisions]?,
-            placed: Vec::new(alloc),
+            wires: Vec::new(alloc),
             path: Path::new(alloc),
             looked_at: 0,
         })
@@ -102,20 +102,20 @@ fn keep(conditions: &mut Vec<Wire>, decision: usize, wire: Wire)
 /// Builds the condition of a decision.
 fn build(here: &Here, work: &mut Work, decision: usize) -> Result<Wire, GateFault>
     requires ready { IsReady (scene here.now.task.mine (pairs here.now.task.prefix.now)
-        here.now.known.now here.now.task.decisions.now.kept.whole) decision }
+        here.now.known.now here.now.task.kept.now.whole) decision }
     requires below { AllBelow (next_of work.old.gates) here.now.known.now }
     requires known { AreConditions (scene here.now.task.mine (pairs here.now.task.prefix.now)
-        here.now.known.now here.now.task.decisions.now.kept.whole) work.old.gates
+        here.now.known.now here.now.task.kept.now.whole) work.old.gates
         work.old.conditions.items }
     ensures value { IfOk result (GivesCondition (scene here.now.task.mine (pairs here.now.task.prefix.now)
-        here.now.known.now here.now.task.decisions.now.kept.whole)
+        here.now.known.now here.now.task.kept.now.whole)
         decision work.old.gates work.new.gates work.new.conditions.items) }
     ensures long { IsErrOf result GateFault.TooLong → 2147483648 ≤ next_of work.old.gates
-        + length (get_or here.now.task.decisions.now.kept.whole decision []) }
+        + length (get_or here.now.task.kept.now.whole decision []) }
 {
-    let kept = here.task.decisions.kept.get(decision);
-    place_literals(here, kept, &mut work.placed)?;
-    let wire = conjunction(&mut work.gates, &work.placed)?;
+    let kept = here.task.kept.get(decision);
+    put_wires(here, kept, &mut work.wires)?;
+    let wire = conjunction(&mut work.gates, &work.wires)?;
     keep(&mut work.conditions, decision, wire);
     Ok(wire)
 }
@@ -123,16 +123,16 @@ fn build(here: &Here, work: &mut Work, decision: usize) -> Result<Wire, GateFaul
 /// The condition of a decision, which is built if it was not.
 fn condition(here: &Here, work: &mut Work, decision: usize) -> Result<Wire, GateFault>
     requires ready { IsReady (scene here.now.task.mine (pairs here.now.task.prefix.now)
-        here.now.known.now here.now.task.decisions.now.kept.whole) decision }
+        here.now.known.now here.now.task.kept.now.whole) decision }
     requires below { AllBelow (next_of work.old.gates) here.now.known.now }
     requires known { AreConditions (scene here.now.task.mine (pairs here.now.task.prefix.now)
-        here.now.known.now here.now.task.decisions.now.kept.whole) work.old.gates
+        here.now.known.now here.now.task.kept.now.whole) work.old.gates
         work.old.conditions.items }
     ensures value { IfOk result (GivesCondition (scene here.now.task.mine (pairs here.now.task.prefix.now)
-        here.now.known.now here.now.task.decisions.now.kept.whole)
+        here.now.known.now here.now.task.kept.now.whole)
         decision work.old.gates work.new.gates work.new.conditions.items) }
     ensures long { IsErrOf result GateFault.TooLong → 2147483648 ≤ next_of work.old.gates
-        + length (get_or here.now.task.decisions.now.kept.whole decision []) }
+        + length (get_or here.now.task.kept.now.whole decision []) }
 {
     match work.built(decision) {
         Some(wire) => Ok(wire),
@@ -143,18 +143,18 @@ fn condition(here: &Here, work: &mut Work, decision: usize) -> Result<Wire, Gate
 /// What is decided by one entry: its value if its condition holds, and else that of another wire.
 pub fn decided(here: &Here, work: &mut Work, entry: &Entry, after: Wire) -> Result<Wire, GateFault>
     requires ready { IsReady (scene here.now.task.mine (pairs here.now.task.prefix.now)
-        here.now.known.now here.now.task.decisions.now.kept.whole) entry.now.decision }
+        here.now.known.now here.now.task.kept.now.whole) entry.now.decision }
     requires below { AllBelow (next_of work.old.gates) here.now.known.now }
     requires after { after.var < next_of work.old.gates }
     requires known { AreConditions (scene here.now.task.mine (pairs here.now.task.prefix.now)
-        here.now.known.now here.now.task.decisions.now.kept.whole) work.old.gates
+        here.now.known.now here.now.task.kept.now.whole) work.old.gates
         work.old.conditions.items }
     ensures value { IfOk result (IsDecided (scene here.now.task.mine (pairs here.now.task.prefix.now)
-        here.now.known.now here.now.task.decisions.now.kept.whole) entry.now.decision
+        here.now.known.now here.now.task.kept.now.whole) entry.now.decision
         entry.now.value after
         work.old.gates work.new.gates work.new.conditions.items) }
     ensures long { IsErrOf result GateFault.TooLong → 2147483648 ≤ next_of work.old.gates
-        + cost here.now.task.decisions.now.kept.whole entry.now.decision }
+        + cost here.now.task.kept.now.whole entry.now.decision }
 {
     if after == Wire::constant(entry.value) {
         return Ok(after);

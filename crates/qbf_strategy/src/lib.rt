@@ -19,6 +19,7 @@ mod counts;
 mod decisions;
 mod entries;
 mod laws;
+mod order;
 mod path;
 mod placed;
 mod places;

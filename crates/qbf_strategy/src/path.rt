@@ -3,11 +3,11 @@
 ghost use Rattle.std.specs.Prelude.{◌≡◌, ◌<◌, ◌≤◌, ◌-◌, [], IsTrue, OnOk, Some, length, slice_get, take};
 ghost use Rattle.aiger.specs.Building.{next_of};
 ghost use Rattle.aiger.specs.Choosing.{IsChoice};
-ghost use Rattle.qbf_strategy.specs.Assembling.{AllBelow, wires_of};
+ghost use Rattle.qbf_strategy.specs.Assembling.{AllBelow};
 ghost use Rattle.qbf_strategy.specs.Paths.{HasTurned, IsMoved, IsSet, StandsBelow, TakesFirst};
 
 use crate::conditions::{conjunction, either};
-use crate::placed::Placed;
+use crate::placed::wire_at;
 use aiger::{Branches, Builder, GateFault, Wire};
 use std::alloc::{AllocError, Global};
 
@@ -35,24 +35,24 @@ pub struct Path {
     pub end: Wire,
 }
 
-/// Whether a wire is that of the literal at a place.
-fn is_at(placed: &[Placed], place: usize, wire: Wire) -> bool
-    ensures { IsTrue result → slice_get (wires_of placed.now) place ≡ Some wire }
+/// Whether this is the wire at a place.
+fn is_at(wires: &[Wire], place: usize, wire: Wire) -> bool
+    ensures { IsTrue result → slice_get wires.now place ≡ Some wire }
 {
-    match placed.get(place) {
-        Some(literal) => literal.wire == wire,
+    match wires.get(place) {
+        Some(found) => *found == wire,
         None => false,
     }
 }
 
-/// How many of the first turns are on the wires of the first literals.
-fn agreeing(turns: &[Turn], placed: &[Placed]) -> usize
-    ensures few { result ≤ length placed.now }
+/// How many of the first turns are on the first wires.
+fn agreeing(turns: &[Turn], wires: &[Wire]) -> usize
+    ensures few { result ≤ length wires.now }
     ensures most { result ≤ length turns.now }
-    ensures takes { TakesFirst (wires_of placed.now) result (take result turns.now) }
+    ensures takes { TakesFirst wires.now result (take result turns.now) }
 {
     for place in 0..turns.len() {
-        if !is_at(placed, place, turns[place].wire) {
+        if !is_at(wires, place, turns[place].wire) {
             return place;
         }
     }
@@ -71,15 +71,6 @@ fn branches_of(gates: &Builder, wire: Wire, on: Wire) -> Branches
             no: wire,
         },
     }
-}
-
-/// The wire of the literal at a place.
-#[tactic(auto, using(crate::proofs::ConditionGates::wire_at))]
-fn wire_of(placed: &[Placed], place: usize) -> Wire
-    requires { place < length placed.now }
-    ensures { slice_get (wires_of placed.now) place ≡ Some result }
-{
-    placed[place].wire
 }
 
 impl Path {
@@ -150,69 +141,64 @@ impl Path {
         Ok(())
     }
 
-    /// Takes the turns on the literals after those that have one, up to a place.
+    /// Takes the turns on the wires after those that have one, up to a place.
     fn take_turns(
         &mut self,
         gates: &Builder,
-        placed: &[Placed],
+        wires: &[Wire],
         until: usize,
     ) -> Result<(), AllocError>
         requires path { StandsBelow (next_of gates.now) self.old }
-        requires placed { AllBelow (next_of gates.now) (wires_of placed.now) }
+        requires wires { AllBelow (next_of gates.now) wires.now }
         requires from { length self.old.turns.items ≤ until }
-        requires until { until ≤ length placed.now }
-        requires takes { TakesFirst (wires_of placed.now) (length self.old.turns.items)
+        requires until { until ≤ length wires.now }
+        requires takes { TakesFirst wires.now (length self.old.turns.items)
             self.old.turns.items }
         ensures moved { OnOk result (IsMoved gates.now gates.now self.old self.new) }
-        ensures takes { OnOk result (TakesFirst (wires_of placed.now) until self.new.turns.items) }
+        ensures takes { OnOk result (TakesFirst wires.now until self.new.turns.items) }
     {
         let from = self.turns.len();
         for place in from..until {
-            self.take_turn(gates, wire_of(placed, place))?;
+            self.take_turn(gates, wire_at(wires, place))?;
         }
         Ok(())
     }
 
-    /// How many literals are worth a turn: all of them if the wire is constant at their end, and
+    /// How many wires are worth a turn: all of them if the wire is constant at their end, and
     /// else up to the last by which it chooses.
-    fn reach(&self, gates: &Builder, placed: &[Placed]) -> usize
-        requires { length self.now.turns.items ≤ length placed.now }
+    fn reach(&self, gates: &Builder, wires: &[Wire]) -> usize
+        requires { length self.now.turns.items ≤ length wires.now }
         ensures from { length self.now.turns.items ≤ result }
-        ensures few { result ≤ length placed.now }
+        ensures few { result ≤ length wires.now }
     {
         let from = self.turns.len();
         let mut wire = self.end;
         let mut reached = from;
-        for place in from..placed.len() {
-            if let Some(branches) = gates.branches(wire, placed[place].wire) {
+        for place in from..wires.len() {
+            if let Some(branches) = gates.branches(wire, wires[place]) {
                 wire = branches.yes;
                 reached = place + 1;
             }
         }
         if wire.var() == 0 {
-            return placed.len();
+            return wires.len();
         }
         reached
     }
 
-    /// Gives the beginning this value if the wires of literals are all true. It has the value that
+    /// Gives the beginning this value if these wires are all true. It has the value that
     /// it had if one is false.
-    pub fn set(
-        &mut self,
-        gates: &mut Builder,
-        placed: &[Placed],
-        value: bool,
-    ) -> Result<(), GateFault>
+    pub fn set(&mut self, gates: &mut Builder, wires: &[Wire], value: bool) -> Result<(), GateFault>
         requires path { StandsBelow (next_of gates.old) self.old }
-        requires placed { AllBelow (next_of gates.old) (wires_of placed.now) }
-        ensures { OnOk result (IsSet (wires_of placed.now) value gates.old gates.new self.old
+        requires wires { AllBelow (next_of gates.old) wires.now }
+        ensures { OnOk result (IsSet wires.now value gates.old gates.new self.old
             self.new) }
     {
-        let keep = agreeing(&self.turns, placed);
+        let keep = agreeing(&self.turns, wires);
         self.leave_all(gates, keep)?;
-        let until = self.reach(gates, placed);
-        self.take_turns(gates, placed, until)?;
-        let rest = conjunction(gates, &placed[until..])?;
+        let until = self.reach(gates, wires);
+        self.take_turns(gates, wires, until)?;
+        let rest = conjunction(gates, &wires[until..])?;
         self.end = either(gates, rest, value, self.end)?;
         Ok(())
     }

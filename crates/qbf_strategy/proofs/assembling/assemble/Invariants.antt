@@ -6,7 +6,7 @@ use Rattle.qbf_strategy.proofs.assembling.assemble.Given as goal
 abbrev pub invariant-loop-place : goal.invariant-loop-place
 invariant-loop-place l = record {
   assembled : AreAssembled l.task.mine
-      (pairs l.task.prefix.now) l.task.decisions.now.kept.whole l.task.decisions.now.removed.whole l.task.plain l.assembly;
+      (pairs l.task.prefix.now) l.task.kept.now.whole l.task.removed.now.whole l.task.plain l.assembly;
   count : length l.assembly.known.items ≡ l._place;
   first : l.assembly.first ≡ l.inputs + 1;
 }

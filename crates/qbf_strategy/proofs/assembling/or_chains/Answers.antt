@@ -9,6 +9,6 @@ pub returns-clause-computes : goal.returns-clause-computes
 returns-clause-computes c =
     let plan = c.args.plan.now in
     elim c.smaller.ensures [
-      | inl e ↦ subst (λ (x : Circuit). Computes plan.mine (pairs plan.prefix.now) (decisions_by plan.mine plan.decisions.now.kept.whole plan.decisions.now.removed.whole) x) (sym e) c.requires.computes
-      | inr e ↦ subst (λ (x : Circuit). Computes plan.mine (pairs plan.prefix.now) (decisions_by plan.mine plan.decisions.now.kept.whole plan.decisions.now.removed.whole) x) (sym e) c.in_ok-by_chains.ensures.computes
+      | inl e ↦ subst (λ (x : Circuit). Computes plan.mine (pairs plan.prefix.now) (decisions_by plan.mine plan.kept.now.whole plan.removed.now.whole) x) (sym e) c.requires.computes
+      | inr e ↦ subst (λ (x : Circuit). Computes plan.mine (pairs plan.prefix.now) (decisions_by plan.mine plan.kept.now.whole plan.removed.now.whole) x) (sym e) c.in_ok-by_chains.ensures.computes
     ]

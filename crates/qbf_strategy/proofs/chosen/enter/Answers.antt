@@ -1,7 +1,6 @@
 use Rattle.std.proofs.Common.{List, subst}
-use Rattle.qbf_strategy.specs.Assembling.{wires_of}
+use Rattle.aiger.specs.Wires.{Wire}
 use Rattle.qbf_strategy.specs.Paths.{IsSet}
-use Rattle.qbf_strategy.specs.declared.placed.Placed.{Placed}
 use Rattle.qbf_strategy.proofs.AssembledCircuit.{on_ok}
 use Rattle.qbf_strategy.proofs.PathValues.{entered}
 use Rattle.qbf_strategy.proofs.chosen.enter.Goals as goal
@@ -10,7 +9,7 @@ pub returns-clause-entered : goal.returns-clause-entered
 returns-clause-entered c =
     on_ok c.set.result
     (λ is. entered _ c.args.entry.now.decision c.args.entry.now.value c.args.work.now.gates c.set.new.gates c.args.work.now.path
-    c.set.new.self c.get-kept.result.now c.place_literals.new.placed.items c.get-kept.ensures c.in_ok-place_literals.ensures
-    (subst (λ (placed : List Placed). IsSet (wires_of placed) c.args.entry.now.value c.args.work.now.gates c.set.new.gates
+    c.set.new.self c.get-kept.result.now c.put_wires.new.wires.items c.get-kept.ensures c.in_ok-put_wires.ensures
+    (subst (λ (wires : List Wire). IsSet wires c.args.entry.now.value c.args.work.now.gates c.set.new.gates
     c.args.work.now.path c.set.new.self) c.deref.ensures.value is))
     c.set.ensures

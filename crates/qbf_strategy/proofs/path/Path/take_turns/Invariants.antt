@@ -1,9 +1,8 @@
-use Rattle.qbf_strategy.specs.Assembling.{wires_of}
 use Rattle.qbf_strategy.specs.Paths.{IsMoved, TakesFirst}
 use Rattle.qbf_strategy.proofs.path.Path.take_turns.Given as goal
 
 abbrev pub invariant-loop-place : goal.invariant-loop-place
 invariant-loop-place l = record {
   moved : IsMoved l.gates l.gates l.fn.self l.self;
-  takes : TakesFirst (wires_of l.placed) l.place l.self.turns.items;
+  takes : TakesFirst l.wires l.place l.self.turns.items;
 }
