@@ -16,6 +16,7 @@ use qbf_core::Prefix;
 use qbf_text::{Sink, SinkFault};
 use qdimacs::write_formula_up_to;
 use qrp::{Frame, write_framed, write_framed_at};
+use trace_items::Outcome;
 
 /// The greatest variable that is bound, or 0 if none is.
 #[tactic(auto, using(crate::proofs::Greatest::next_greatest))]

@@ -10,8 +10,8 @@ ghost use Rattle.qrp_rules.specs.Conditions.{IsFaultOf, initial_condition};
 ghost use Rattle.qrp_rules.specs.Reducts.{HasNoReduct, IsReductAt};
 
 use crate::fault::RuleFault;
-use crate::lists::{is_among, is_ordered};
 use crate::walks::ordered_reduct_fault_by;
+use crate::written::{is_among, is_ordered};
 use qbf_core::{Formula, Lit, LitSet, Prefix, Quantifier, SetFault, is_member};
 use std::alloc::{AllocError, Global};
 

@@ -14,7 +14,6 @@
 mod blocks;
 mod fault;
 mod initial;
-mod lists;
 mod normalizing;
 mod reduct;
 mod resolution;
@@ -22,11 +21,11 @@ mod resolvent;
 mod rules;
 mod side;
 mod walks;
+mod written;
 
 pub use blocks::{Reducible, is_bound_by, reducible_in};
 pub use fault::RuleFault;
 pub use initial::{has_clash, has_common_literal, initial_clause_fault, reduced_clause};
-pub use lists::{is_among, is_ordered};
 pub use normalizing::{normal_form, normalize};
 pub use reduct::{is_reduct, ordered_reduct_fault, reduct_fault};
 pub use resolution::{Resolution, is_pivot, reducible_in_parents};
@@ -34,3 +33,4 @@ pub use resolvent::{ordered_resolvent_fault, resolvent_fault};
 pub use rules::Rules;
 pub use side::{Clauses, Cubes, Side};
 pub use walks::may_omit;
+pub use written::{is_among, is_ordered};

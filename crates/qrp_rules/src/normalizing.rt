@@ -10,7 +10,7 @@ ghost use Rattle.qbf_core.specs.Rules.{IsClean, IsTautology};
 ghost use Rattle.qbf_core.specs.Sets.{HasMembersOf, IsOrdered};
 ghost use Rattle.qrp_rules.specs.Normal.{normal_form};
 
-use crate::lists::is_ordered;
+use crate::written::is_ordered;
 use qbf_core::{Lit, LitSet, Prefix, SetFault, are_bound};
 use std::alloc::Global;
 

@@ -1,7 +1,7 @@
 use Rattle.qrp_rules.proofs.Cited.{◌≡◌, ◌<◌, ◌≤◌, ℕ, refl, sym, ap, ◌∙◌, inl, inr, arith, false≢true, Literal, in_take_more, take_more_in}
 use Rattle.qrp_rules.proofs.OrderedLists.{ordered_taken}
 use Rattle.qrp_rules.proofs.Clashing.{taken_below}
-use Rattle.qrp_rules.proofs.lists.is_ordered.Goals as goal
+use Rattle.qrp_rules.proofs.written.is_ordered.Goals as goal
 
 pub returns-then-number-last : goal.returns-then-number-last
 returns-then-number-last c = (

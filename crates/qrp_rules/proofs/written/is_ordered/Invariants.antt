@@ -1,5 +1,5 @@
 use Rattle.qrp_rules.proofs.Cited.{◌≡◌, ◌≤◌, ◌⊎◌, take, Literal, ◌∈◌, IsOrdered}
-use Rattle.qrp_rules.proofs.lists.is_ordered.Given as goal
+use Rattle.qrp_rules.proofs.written.is_ordered.Given as goal
 
 abbrev pub invariant-loop-lit : goal.invariant-loop-lit
 invariant-loop-lit l = record {
