@@ -4,7 +4,7 @@ ghost use Rattle.std.specs.Prelude.{◌≡◌, [], ◌∷◌, IfNone, IfSome};
 ghost use Rattle.qbf_core.specs.Packed.{fours, ones, twos, unpacked, AreLiterals};
 
 use crate::literal::Lit;
-use crate::packed_lists::{of_four, of_one, of_two};
+use crate::literal_bytes::{of_four, of_one, of_two};
 use lists::see_all;
 use std::marker::Model;
 

@@ -5,11 +5,11 @@ ghost use Rattle.std.specs.Prelude.{◌≡◌, ◌≤◌, ◌<◌, [], ◌∷◌
 ghost use Rattle.std.specs.Prelude.{◌-◌, false, slice_get, IsTrue, Some};
 ghost use Rattle.std.specs.List.{AllByRecursion};
 ghost use Rattle.std.specs.Int.{w8, w16, w32, to_le_bytes};
-ghost use Rattle.qbf_core.specs.Blocks.{IsVariable};
-ghost use Rattle.qbf_core.specs.Packed.{fours, is_place, kept_in, literal_in, ones, packed, twos};
+ghost use Rattle.qbf_core.specs.Packed.{fours, is_place, kept_in, ones, packed, twos};
 ghost use Rattle.qbf_core.specs.Packed.{unpacked, AreLiterals, Packs};
 
 use crate::literal::Lit;
+use crate::literal_bytes::{byte_of, of_four, of_one, of_two};
 use crate::lits_left::LitsLeft;
 use lists::{GrowingLists, see_all};
 use std::alloc::{AllocError, Global};
@@ -28,16 +28,6 @@ fn largest(lits: &[Lit]) -> u32
         place += 1;
     }
     largest
-}
-
-/// The byte of a literal of a variable up to 127.
-#[inline(always)]
-fn byte_of(lit: Lit) -> u8
-    requires { lit.var ≤ 127 }
-    ensures { result ∷ [] ≡ packed w8 (lit ∷ []) }
-{
-    let [byte] = (lit.written() as i8).to_le_bytes();
-    byte
 }
 
 /// Adds literals of variables up to 127, in one byte each.
@@ -130,33 +120,6 @@ fn put_fours(bytes: &mut GrowingLists<u8>, lits: &[Lit]) -> Result<(), AllocErro
         left = rest;
     }
     Ok(())
-}
-
-/// The literal of a byte.
-#[inline(always)]
-pub(crate) fn of_one(a: u8) -> Lit
-    requires { IsVariable (literal_in w8 (a ∷ [])).var }
-    ensures { result ≡ literal_in w8 (a ∷ []) }
-{
-    Lit::of_written(i32::from(i8::from_le_bytes([a])))
-}
-
-/// The literal of two bytes.
-#[inline(always)]
-pub(crate) fn of_two(a: u8, b: u8) -> Lit
-    requires { IsVariable (literal_in w16 (a ∷ b ∷ [])).var }
-    ensures { result ≡ literal_in w16 (a ∷ b ∷ []) }
-{
-    Lit::of_written(i32::from(i16::from_le_bytes([a, b])))
-}
-
-/// The literal of four bytes.
-#[inline(always)]
-pub(crate) fn of_four(bytes: [u8; 4]) -> Lit
-    requires { IsVariable (literal_in w32 bytes).var }
-    ensures { result ≡ literal_in w32 bytes }
-{
-    Lit::of_written(i32::from_le_bytes(bytes))
 }
 
 /// Adds the literals of bytes that are one each.
