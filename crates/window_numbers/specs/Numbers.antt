@@ -105,10 +105,10 @@ pub record AreTails (bytes : List ℕ) (f : FourTails) : Type 0 where
   pub separate : (i : ℕ) → i < 4 → is_separator (slice_index_or bytes (slice_index_or f.ends i 0) 0) ≡ true
 
 -- they are those from one of the numbers of a window on
-pub record AreTailsFrom (n : Numbers) (bytes : List ℕ) (k : ℕ) (f : FourTails) : Type 0 where
+pub record AreTailsFrom (n : Numbers) (bytes : List ℕ) (f : FourTails) : Type 0 where
   pub tails : AreTails bytes f
-  pub gaps : (i : ℕ) → i < 4 → IsGapTo bytes (place n (k + i)) (slice_index_or f.starts i 0)
-  pub next : (i : ℕ) → i < 4 → place n (k + i + 1) ≡ slice_index_or f.ends i 0 + 1
+  pub gaps : (i : ℕ) → i < 4 → IsGapTo bytes (place n (f.first + i)) (slice_index_or f.starts i 0)
+  pub next : (i : ℕ) → i < 4 → place n (f.first + i + 1) ≡ slice_index_or f.ends i 0 + 1
 
 -- the number of bytes of the first `count` numbers that are not passed, with the separator after each
 abbrev pub len_of : Numbers → ℕ → ℕ

@@ -14,6 +14,15 @@ use crate::tails::{FourTails, Parted};
 use crate::usual::number_before;
 use std::simd::prelude::*;
 
+/// How far numbers are put.
+#[derive(Clone, Copy)]
+struct Filled {
+    /// The number after those that are put.
+    next: usize,
+    /// How many zeros are noted.
+    zeros: usize,
+}
+
 impl Numbers {
     /// Puts a short number at the place `k`.
     #[inline(always)]
@@ -117,12 +126,11 @@ impl Numbers {
         Some(four)
     }
 
-    /// The four numbers from the number `k` on, which begin at the place `at`, if they come before
-    /// the number `runs` and are usual ones.
+    /// The four numbers from the number `k` on, if they come before the number `runs` and are usual
+    /// ones.
     #[inline(always)]
-    fn four_at(&self, bytes: &[u8], k: usize, at: usize, runs: usize) -> Option<FourNumbers>
+    fn four_at(&self, bytes: &[u8], k: usize, runs: usize) -> Option<FourNumbers>
         requires room { (k ≤ runs) × (runs ≤ MOST) }
-        requires here { place self.now k ≡ at }
         requires small { length bytes.now ≤ ROOM }
         ensures four { IfSome result (λ four. (k + 4 ≤ runs)
             × StandFrom bytes.now self.now.places k four.values × AreShort four.values) }
@@ -130,35 +138,38 @@ impl Numbers {
         if k + 4 > runs {
             return None;
         }
+        let begin = self.begin(k);
         let ends = self.ends(k);
-        let four = four_numbers(bytes, at, ends)?;
+        let four = four_numbers(bytes, begin, ends)?;
         if !all_separate(bytes, ends) {
             return None;
         }
         Some(four)
     }
 
-    /// Puts up to four numbers one by one from the number `k` on, as far as they are usual ones and
-    /// come before the number `runs`. Returns how far that is, and how many zeros are noted.
+    /// Puts up to four numbers more, one by one, as far as they are usual ones and come before the
+    /// number `runs`.
     #[inline(always)]
-    fn put_ones(&mut self, bytes: &[u8], k: usize, runs: usize, zeros: usize) -> (usize, usize)
-        requires fills { FillsTo self.old bytes.now (place self.old self.old.first) runs k }
+    fn put_ones(&mut self, bytes: &[u8], runs: usize, filled: Filled) -> Filled
+        requires fills { FillsTo self.old bytes.now (place self.old self.old.first) runs
+            filled.next }
         requires small { length bytes.now ≤ ROOM }
-        ensures fills { FillsTo self.new bytes.now (place self.old self.old.first) runs result.0 }
-        ensures further { k ≤ result.0 }
+        ensures fills { FillsTo self.new bytes.now (place self.old self.old.first) runs
+            result.next }
+        ensures further { filled.next ≤ result.next }
     {
+        let mut k = filled.next;
+        let mut zeros = filled.zeros;
         let most = k + 4;
-        let mut k = k;
-        let mut zeros = zeros;
         'numbers: while k < most {
             let Some(value) = self.one_spaced_at(bytes, k, runs) else {
-                return (k, zeros);
+                return Filled { next: k, zeros };
             };
             self.put(k, value);
             zeros = self.note_zero(k, value == 0, zeros);
             k += 1;
         }
-        (k, zeros)
+        Filled { next: k, zeros }
     }
 
     /// A bit for each of four numbers from the number `k` on, the first the lowest: whether it seems
@@ -175,94 +186,101 @@ impl Numbers {
         (next - here).simd_gt(u16x4::splat(9)).to_bitmask()
     }
 
-    /// Puts up to four numbers from the number `k` on, as `put_ones` does, or more of them if one of
-    /// the four has more than eight bytes.
+    /// Puts up to four numbers more, as `put_ones` does, or more of them if one of the four has more
+    /// than eight bytes.
     #[cold]
     #[inline(never)]
-    fn put_others(&mut self, bytes: &[u8], k: usize, runs: usize, zeros: usize) -> (usize, usize)
-        requires fills { FillsTo self.old bytes.now (place self.old self.old.first) runs k }
+    fn put_others(&mut self, bytes: &[u8], runs: usize, filled: Filled) -> Filled
+        requires fills { FillsTo self.old bytes.now (place self.old self.old.first) runs
+            filled.next }
         requires small { length bytes.now ≤ ROOM }
-        ensures fills { FillsTo self.new bytes.now (place self.old self.old.first) runs result.0 }
-        ensures further { k ≤ result.0 }
+        ensures fills { FillsTo self.new bytes.now (place self.old self.old.first) runs
+            result.next }
+        ensures further { filled.next ≤ result.next }
     {
+        let k = filled.next;
         if k + 4 > runs {
-            return self.put_ones(bytes, k, runs, zeros);
+            return self.put_ones(bytes, runs, filled);
         }
         let wide = self.wide_marks(k);
         if wide == 0 {
-            return self.put_ones(bytes, k, runs, zeros);
+            return self.put_ones(bytes, runs, filled);
         }
         let Some(four) = FourTails::at(self, bytes, k, runs) else {
-            return self.put_ones(bytes, k, runs, zeros);
+            return self.put_ones(bytes, runs, filled);
         };
-        let next = four.put_tails(self, bytes, k);
-        let noted = self.note_zeros(k, four.zeros & !wide, zeros);
+        let next = four.put_tails(self, bytes);
+        let zeros = self.note_zeros(k, four.zeros & !wide, filled.zeros);
         if next == k + 4 {
-            return (next, noted);
+            return Filled { next, zeros };
         }
-        self.put_ones(bytes, next, runs, noted)
+        self.put_ones(bytes, runs, Filled { next, zeros })
     }
 
-    /// Puts four numbers from the number `k` on, if more separators come before some of them, or up
-    /// to four as `put_others` does.
+    /// Puts four numbers more, if more separators come before some of them, or up to four as
+    /// `put_others` does.
     #[cold]
     #[inline(never)]
-    fn put_spaced(&mut self, bytes: &[u8], k: usize, runs: usize, zeros: usize) -> (usize, usize)
-        requires fills { FillsTo self.old bytes.now (place self.old self.old.first) runs k }
+    fn put_spaced(&mut self, bytes: &[u8], runs: usize, filled: Filled) -> Filled
+        requires fills { FillsTo self.old bytes.now (place self.old self.old.first) runs
+            filled.next }
         requires small { length bytes.now ≤ ROOM }
-        ensures fills { FillsTo self.new bytes.now (place self.old self.old.first) runs result.0 }
-        ensures further { k ≤ result.0 }
+        ensures fills { FillsTo self.new bytes.now (place self.old self.old.first) runs
+            result.next }
+        ensures further { filled.next ≤ result.next }
     {
+        let k = filled.next;
         let Some(four) = self.four_spaced_at(bytes, k, runs) else {
-            return self.put_others(bytes, k, runs, zeros);
+            return self.put_others(bytes, runs, filled);
         };
         self.put_four(k, four.values);
-        let noted = self.note_zeros(k, four.zeros, zeros);
-        (k + 4, noted)
+        let zeros = self.note_zeros(k, four.zeros, filled.zeros);
+        Filled { next: k + 4, zeros }
     }
 
-    /// Puts four numbers from the number `k` on, or fewer, which are not usual ones in a row.
+    /// Puts four numbers more, or fewer, which are not usual ones in a row.
     #[cold]
     #[inline(never)]
-    fn put_unusual(&mut self, bytes: &[u8], k: usize, runs: usize, zeros: usize) -> (usize, usize)
-        requires fills { FillsTo self.old bytes.now (place self.old self.old.first) runs k }
+    fn put_unusual(&mut self, bytes: &[u8], runs: usize, filled: Filled) -> Filled
+        requires fills { FillsTo self.old bytes.now (place self.old self.old.first) runs
+            filled.next }
         requires small { length bytes.now ≤ ROOM }
-        ensures fills { FillsTo self.new bytes.now (place self.old self.old.first) runs result.0 }
-        ensures further { k ≤ result.0 }
+        ensures fills { FillsTo self.new bytes.now (place self.old self.old.first) runs
+            result.next }
+        ensures further { filled.next ≤ result.next }
     {
         if self.is_spaced {
-            return self.put_spaced(bytes, k, runs, zeros);
+            return self.put_spaced(bytes, runs, filled);
         }
-        self.put_others(bytes, k, runs, zeros)
+        self.put_others(bytes, runs, filled)
     }
 
-    /// Puts the numbers that stand from the place `start` on, as far as they are usual ones and
-    /// come before the number `runs`. Returns how far that is, and how many zeros are among them.
+    /// Puts the numbers from the first that was not passed on, as far as they are usual ones and
+    /// come before the number `runs`.
     #[inline(always)]
-    fn put_usual(&mut self, bytes: &[u8], start: usize, runs: usize) -> (usize, usize)
-        requires start { (start ≤ length bytes.now) × (place self.old self.old.first ≡ start) }
+    fn put_usual(&mut self, bytes: &[u8], runs: usize) -> Filled
+        requires start { place self.old self.old.first ≤ length bytes.now }
         requires small { length bytes.now ≤ ROOM }
         requires room { (self.old.first ≤ runs) × (runs ≤ MOST)
             × (length self.old.values ≡ MOST) }
-        ensures { AreHeld (record self.new { known = result.0 }) bytes.now start }
+        ensures { AreHeld (record self.new { known = result.next }) bytes.now
+            (place self.old self.old.first) }
     {
         let mut k = self.first;
-        let mut at = start;
         let mut zeros = 0;
         'numbers: loop {
-            if let Some(four) = self.four_at(bytes, k, at, runs) {
+            if let Some(four) = self.four_at(bytes, k, runs) {
                 self.put_four(k, four.values);
                 zeros = self.note_zeros(k, four.zeros, zeros);
                 k += 4;
             } else {
-                let (next, noted) = self.put_unusual(bytes, k, runs, zeros);
-                if next < k + 4 {
-                    return (next, noted);
+                let filled = self.put_unusual(bytes, runs, Filled { next: k, zeros });
+                if filled.next < k + 4 {
+                    return filled;
                 }
-                k = next;
-                zeros = noted;
+                k = filled.next;
+                zeros = filled.zeros;
             }
-            at = usize::from(self.places[k]);
         }
     }
 
@@ -275,11 +293,11 @@ impl Numbers {
         ensures { AreHeld self.new bytes.now start }
     {
         let runs = self.seek(bytes, start);
-        let (known, zeros) = self.put_usual(bytes, start, runs);
-        self.known = known;
+        let filled = self.put_usual(bytes, runs);
+        self.known = filled.next;
         self.zero = 0;
-        self.zero_count = zeros;
+        self.zero_count = filled.zeros;
         self.alone = 1;
-        self.is_spaced = self.is_spaced || self.is_gap(bytes, known, runs);
+        self.is_spaced = self.is_spaced || self.is_gap(bytes, filled.next, runs);
     }
 }

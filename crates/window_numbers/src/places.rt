@@ -61,7 +61,7 @@ impl Numbers {
 
     /// The place where the number `k` begins, if no separators more come first.
     #[inline(always)]
-    fn begin(&self, k: usize) -> usize
+    pub(crate) fn begin(&self, k: usize) -> usize
         requires { k < MOST }
         ensures { result ≡ place self.now k }
     {

@@ -104,9 +104,11 @@ fn four_tails(starts: [usize; 4], ends: [usize; 4]) -> [usize; 4]
     ]
 }
 
-/// Four numbers between places.
+/// Four numbers of a window, between places.
 #[derive(Clone, Copy)]
 pub struct FourTails {
+    /// Which number of the window the first is.
+    pub first: usize,
     /// Where each begins.
     pub starts: [usize; 4],
     /// Where the last eight bytes of each begin.
@@ -152,7 +154,8 @@ impl FourTails {
     pub fn at(numbers: &Numbers, bytes: &[u8], k: usize, runs: usize) -> Option<FourTails>
         requires room { (k ≤ runs) × (runs ≤ MOST) }
         requires small { length bytes.now ≤ ROOM }
-        ensures { IfSome result (λ four. (k + 4 ≤ runs) × AreTailsFrom numbers.now bytes.now k four) }
+        ensures { IfSome result (λ four. (k + 4 ≤ runs) × (four.first ≡ k)
+            × AreTailsFrom numbers.now bytes.now four) }
     {
         if k + 4 > runs {
             return None;
@@ -165,6 +168,7 @@ impl FourTails {
             return None;
         }
         Some(FourTails {
+            first: k,
             starts,
             tails,
             ends,
@@ -173,51 +177,52 @@ impl FourTails {
         })
     }
 
-    /// Puts one of four numbers from the number `k` on, if it can be read. Returns whether it can.
+    /// Puts one of the numbers, if it can be read. Returns whether it can.
     #[inline(always)]
-    fn put_tail(self, numbers: &mut Numbers, bytes: &[u8], k: usize, i: usize) -> bool
-        requires room { (i < 4) × (k + 4 ≤ MOST) }
-        requires tails { AreTailsFrom numbers.old bytes.now k self }
+    fn put_tail(self, numbers: &mut Numbers, bytes: &[u8], i: usize) -> bool
+        requires room { (i < 4) × (self.first + 4 ≤ MOST) }
+        requires tails { AreTailsFrom numbers.old bytes.now self }
         ensures same { numbers.new ≡ record numbers.old {
           values = numbers.new.values;
           longs = numbers.new.longs;
         } }
-        ensures fills { IsTrue result → (start runs : ℕ) → k + 4 ≤ runs
-            → FillsTo numbers.old bytes.now start runs (k + i)
-            → FillsTo numbers.new bytes.now start runs (k + (i + 1)) }
+        ensures fills { IsTrue result → (start runs : ℕ) → self.first + 4 ≤ runs
+            → FillsTo numbers.old bytes.now start runs (self.first + i)
+            → FillsTo numbers.new bytes.now start runs (self.first + (i + 1)) }
         ensures none { result ≡ false → numbers.new ≡ numbers.old }
     {
         match self.number(bytes, i) {
             Some(number) => {
-                numbers.put_parted(k + i, number);
+                numbers.put_parted(self.first + i, number);
                 true
             }
             None => false,
         }
     }
 
-    /// Puts four numbers from the number `k` on, as far as they can be read. Returns how far that
-    /// is.
+    /// Puts the numbers, as far as they can be read. Returns the number after those that are put.
     #[inline(always)]
-    pub fn put_tails(self, numbers: &mut Numbers, bytes: &[u8], k: usize) -> usize
-        requires room { k + 4 ≤ MOST }
-        requires tails { AreTailsFrom numbers.old bytes.now k self }
-        ensures fills { (start runs : ℕ) → k + 4 ≤ runs → FillsTo numbers.old bytes.now start runs k
+    pub fn put_tails(self, numbers: &mut Numbers, bytes: &[u8]) -> usize
+        requires room { self.first + 4 ≤ MOST }
+        requires tails { AreTailsFrom numbers.old bytes.now self }
+        ensures fills { (start runs : ℕ) → self.first + 4 ≤ runs
+            → FillsTo numbers.old bytes.now start runs self.first
             → FillsTo numbers.new bytes.now start runs result }
         ensures first { numbers.new.first ≡ numbers.old.first }
         ensures places { numbers.new.places ≡ numbers.old.places }
-        ensures further { k ≤ result }
+        ensures further { self.first ≤ result }
     {
-        if !self.put_tail(numbers, bytes, k, 0) {
+        let k = self.first;
+        if !self.put_tail(numbers, bytes, 0) {
             return k;
         }
-        if !self.put_tail(numbers, bytes, k, 1) {
+        if !self.put_tail(numbers, bytes, 1) {
             return k + 1;
         }
-        if !self.put_tail(numbers, bytes, k, 2) {
+        if !self.put_tail(numbers, bytes, 2) {
             return k + 2;
         }
-        if !self.put_tail(numbers, bytes, k, 3) {
+        if !self.put_tail(numbers, bytes, 3) {
             return k + 3;
         }
         k + 4

@@ -13,6 +13,6 @@ returns-clause-fills c =
     let values = c.in-Some.four.values in
     let four : length values ≡ 4 = omega arith in
     let row = c.in-Some.ensures.four in
-    fills_on n c.put_four.new.self c.note_zeros-noted.new.self c.args.bytes.now (place n n.first) c.args.runs c.args.k 4 values
+    fills_on n c.put_four.new.self c.note_zeros-zeros.new.self c.args.bytes.now (place n n.first) c.args.runs c.args.filled.next 4 values
     c.requires.fills four (omega arith) row.0 row.1 (rw (lanes_are values row.2) at c.put_four.ensures.put) c.put_four.ensures.same
-    c.note_zeros-noted.ensures.same
+    c.note_zeros-zeros.ensures.same

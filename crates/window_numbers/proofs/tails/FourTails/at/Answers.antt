@@ -1,4 +1,4 @@
-use Rattle.qbf_tokens.proofs.Cited.{◌≡◌, length, rules, arith, sym, ◌∙◌}
+use Rattle.qbf_tokens.proofs.Cited.{◌≡◌, length, refl, rules, arith, sym, ◌∙◌}
 use Rattle.window_numbers.proofs.PutNumbers.{lanes_are}
 use Rattle.window_numbers.proofs.NumbersInARow.{are_all_short, four_ends, EndsGoUp}
 use Rattle.window_numbers.proofs.tails.FourTails.at.Goals as goal
@@ -21,6 +21,7 @@ returns c =
     let there = four_ends n bytes ends k four up (c.all_separate.ensures c.if-not-all_separate.false) c.requires.small c.ends-ends.ensures in
     let short = are_all_short bytes tails ends values (all ∙ sym four) numbers in (
       omega (arith, c.if-k-runs.false),
+      refl,
       rw (lanes_are values short) (record {
         tails = record {
           tails = c.four_tails-tails.ensures;

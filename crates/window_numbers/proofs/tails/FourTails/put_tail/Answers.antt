@@ -14,7 +14,8 @@ returns-in-Some-clause-fills c = λ _ start runs few f.
     let m = c.put_parted.new.self in
     let bytes = c.args.bytes.now in
     let i = c.args.i in
-    let k = c.args.k + i in
+    let first = c.args.self.first in
+    let k = first + i in
     let t = c.requires.tails in
     let lane = c.requires.room.0 in
     let from = get_or c.args.self.starts i 0 in
@@ -30,5 +31,5 @@ returns-in-Some-clause-fills c = λ _ start runs few f.
     ) in
     let more = fills_more n m bytes start runs k 1 (v ∷ []) f refl (omega arith) (omega (arith, few, lane))
     (alone bytes n.places k v stands) c.put_parted.ensures.put c.put_parted.ensures.same in
-    let on : k + 1 ≡ c.args.k + (i + 1) = omega arith in
+    let on : k + 1 ≡ first + (i + 1) = omega arith in
     subst (λ j. FillsTo m bytes start runs j) on more
