@@ -125,6 +125,8 @@ fn lower_half(sum: u64) -> u32 {
 struct Query<'a> {
     /// The literals of an initial step, as they are written.
     lits: &'a [Lit],
+    /// Their sum, of the kind of the chains.
+    sum: u64,
     /// At most this many clauses are looked at.
     most: usize,
 }
@@ -170,18 +172,17 @@ impl Chains {
         }
     }
 
-    /// The position of a clause with this sum that accepts the literals, among as many of the chain
-    /// as the query allows.
+    /// The position of a clause with the sum of the literals that accepts them, among as many of the
+    /// chain as the query allows.
     fn find(
         &self,
         seen: &mut SeenLits,
         formula: &Formula,
-        sum: u64,
         query: Query,
     ) -> Result<Option<usize>, AllocError>
         ensures { IfOk result (λ found. IfSome found (IsAcceptedAt formula.now query.entry.lits.now)) }
     {
-        let mut position = match self.heads.get(self.chain_of(sum)) {
+        let mut position = match self.heads.get(self.chain_of(query.sum)) {
             Some(head) => *head,
             None => END,
         };
@@ -190,7 +191,7 @@ impl Chains {
                 return Ok(None);
             }
             let link = self.link(position);
-            if link.half == lower_half(sum) {
+            if link.half == lower_half(query.sum) {
                 if accepts_at(seen, formula, position as usize, query.lits)? {
                     return Ok(Some(position as usize));
                 }
@@ -232,6 +233,14 @@ impl ClauseIndex {
         Ok(chains)
     }
 
+    /// The sum by which literals are looked up.
+    ///
+    /// # Errors
+    /// If an allocation fails.
+    fn sum(&self, seen: &mut SeenLits, formula: &Formula, lits: &[Lit]) -> Result<u64, AllocError> {
+        sum_of(self.kind, seen, formula.prefix(), lits)
+    }
+
     /// The position of a clause that accepts the literals, among those that have the same sum.
     fn find(
         &mut self,
@@ -241,12 +250,11 @@ impl ClauseIndex {
     ) -> Result<Option<usize>, AllocError>
         ensures { IfOk result (λ found. IfSome found (IsAcceptedAt formula.now query.entry.lits.now)) }
     {
-        let sum = sum_of(self.kind, seen, formula.prefix(), query.lits)?;
         if let Some(chains) = &self.chains {
-            return chains.find(seen, formula, sum, query);
+            return chains.find(seen, formula, query);
         }
         let chains = self.chains_of(seen, formula)?;
-        let found = chains.find(seen, formula, sum, query)?;
+        let found = chains.find(seen, formula, query)?;
         self.chains = Some(chains);
         Ok(found)
     }
@@ -282,14 +290,26 @@ impl InitialClauses {
     ) -> Result<Option<usize>, AllocError>
         ensures { IfOk result (λ found. IfSome found (IsAcceptedAt formula.now lits.now)) }
     {
+        let sum = self.kept.sum(seen, formula, lits)?;
+        let few = Query {
+            lits,
+            sum,
+            most: FEW,
+        };
+        if let Some(position) = self.kept.find(seen, formula, few)? {
+            return Ok(Some(position));
+        }
         let most = usize::MAX;
-        if let Some(position) = self.kept.find(seen, formula, Query { lits, most: FEW })? {
+        let whole = self.all.sum(seen, formula, lits)?;
+        let all = Query {
+            lits,
+            sum: whole,
+            most,
+        };
+        if let Some(position) = self.all.find(seen, formula, all)? {
             return Ok(Some(position));
         }
-        if let Some(position) = self.all.find(seen, formula, Query { lits, most })? {
-            return Ok(Some(position));
-        }
-        self.kept.find(seen, formula, Query { lits, most })
+        self.kept.find(seen, formula, Query { lits, sum, most })
     }
 
     /// The position of a clause that accepts the literals. The clause after the one that was found
