@@ -142,16 +142,26 @@ fn put_xor(clauses: &mut GrowingLists<Lit>, var: Var, a: Lit, b: Lit) -> Result<
     put_three(clauses, on, a, b.negated())
 }
 
+/// The inputs of a choice.
+#[derive(Clone, Copy)]
+struct Choice {
+    condition: Lit,
+    /// Its value if the condition is true.
+    if_true: Lit,
+    /// Its value if the condition is false.
+    if_false: Lit,
+}
+
 /// The clauses of a choice.
-fn put_ite(
-    clauses: &mut GrowingLists<Lit>,
-    var: Var,
-    a: Lit,
-    b: Lit,
-    c: Lit,
-) -> Result<(), AllocError>
-    ensures { OnOk result (clauses.new.whole ≡ clauses.old.whole ++ clauses_of var (Ite a b c)) }
+fn put_ite(clauses: &mut GrowingLists<Lit>, var: Var, choice: Choice) -> Result<(), AllocError>
+    ensures { OnOk result (clauses.new.whole ≡ clauses.old.whole
+        ++ clauses_of var (Ite choice.condition choice.if_true choice.if_false)) }
 {
+    let Choice {
+        condition: a,
+        if_true: b,
+        if_false: c,
+    } = choice;
     let on = Lit::new(var, false);
     let off = Lit::new(var, true);
     put_three(clauses, off, a.negated(), b)?;
@@ -180,7 +190,14 @@ pub(crate) fn put_gate_clauses(
             _ => put_and(clauses, var, inputs),
         },
         GateKind::Choice => match inputs {
-            [a, b, c] => put_ite(clauses, var, *a, *b, *c),
+            [a, b, c] => {
+                let choice = Choice {
+                    condition: *a,
+                    if_true: *b,
+                    if_false: *c,
+                };
+                put_ite(clauses, var, choice)
+            }
             _ => put_and(clauses, var, inputs),
         },
     }
