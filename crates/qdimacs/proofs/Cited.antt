@@ -33,7 +33,7 @@ pub use Rattle.qdimacs.specs.Reading.{is_outside, read, read_formula, reads_byte
 pub use Rattle.qdimacs.specs.Texts.{blocks_rest, clauses_text, opening, sets_text}
 pub use Rattle.qdimacs.specs.declared.fault.FormulaFault.{FormulaFault}
 pub use Rattle.qdimacs.specs.declared.fault.FormulaFault.TheVariants.{F2, F3, F4, F5, F6, F7, F8}
-pub use Rattle.qdimacs.specs.declared.grammar.Parts.{Parts}
+pub use Rattle.qdimacs.specs.declared.states.Parts.{Parts}
 pub use Rattle.std.proofs.Common.{Bool, Err, IfSome, List, None, Ok, Option, Result, Some, [], ap, append_assoc, arith, drop, eqb, false}
 pub use Rattle.std.proofs.Common.{inl, inr, length, map, refl, rules, slice_get, subst, sym, true, ℕ, ◌++◌, ◌+◌, ◌-◌, ◌<◌, ◌||◌, ◌∙◌, ◌∷◌}
 pub use Rattle.std.proofs.Common.{◌≡◌, ◌≢◌, ◌≤◌, ◌⊎◌}

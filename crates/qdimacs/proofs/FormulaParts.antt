@@ -2,7 +2,7 @@
 use Rattle.qdimacs.proofs.Cited.{arith, common_steps, leads_none, leads_more, leads_further, ◌≡◌, Bool, false, Option, None, Result, Ok}
 use Rattle.qdimacs.proofs.Cited.{Quantifier, Literal, Token, pairs, Ends, blocks_of-pairs, is_end, Goes, FormulaFault, Parts, formula_of}
 use Rattle.qdimacs.proofs.Cited.{heading, state_at, row_to, IsMade, State, Whole, between_row, row}
-use Rattle.qdimacs.specs.declared.grammar.State as states
+use Rattle.qdimacs.specs.declared.states.State as states
 
 -- after the last clause the end makes the formula
 pub made_whole : (p : Parts) → IsMade p → (set : Option Quantifier) (mark : Result Bool FormulaFault)

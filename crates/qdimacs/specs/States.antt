@@ -7,9 +7,9 @@ use Rattle.qbf_text.specs.declared.grammar.Stop.{Stop}
 use Rattle.qbf_text.specs.declared.grammar.Stop.TheVariants as stop
 use Rattle.dimacs_syntax.specs.Headers.{IsUpTo}
 use Rattle.qdimacs.specs.declared.fault.FormulaFault.{FormulaFault}
-use Rattle.qdimacs.specs.declared.grammar.State as states
-use Rattle.qdimacs.specs.declared.grammar.State.TheVariants as at
-use Rattle.qdimacs.specs.declared.grammar.Parts.{Parts}
+use Rattle.qdimacs.specs.declared.states.State as states
+use Rattle.qdimacs.specs.declared.states.State.TheVariants as at
+use Rattle.qdimacs.specs.declared.states.Parts.{Parts}
 use Rattle.qdimacs.specs.Reading.{Heading, State, InHeader, Between, InSet, InClause, Whole, Row, IsFull}
 
 -- the numbers of the header

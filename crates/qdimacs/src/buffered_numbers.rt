@@ -3,12 +3,12 @@
 ghost use Rattle.std.specs.Prelude.{◌≡◌, ◌≤◌, ◌<◌, ◌+◌, true, false, length, IfOk, IsTrue};
 ghost use Rattle.std.specs.Prelude.{pos, slice_index_or};
 ghost use Rattle.qbf_text.specs.TakenNumbers.{LeadsOver};
-ghost use Rattle.qdimacs.specs.declared.grammar.State.TheVariants as at;
+ghost use Rattle.qdimacs.specs.declared.states.State.TheVariants as at;
 ghost use Rattle.qdimacs.specs.States.{state_at, IsSound};
 ghost use Rattle.qdimacs.specs.Reading.{row};
 ghost use Rattle.window_numbers.specs.Values.{numbers_of};
 
-use crate::grammar::{Parts, State, take_at, take_literal, take_member};
+use crate::states::{Parts, State, take_at, take_literal, take_member};
 use dimacs_syntax::extend_literals;
 use qbf_core::Quantifier;
 use qbf_text::Stop;

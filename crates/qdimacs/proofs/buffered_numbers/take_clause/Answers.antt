@@ -1,7 +1,7 @@
 use Rattle.qdimacs.proofs.Cited.{state_at, row}
 use Rattle.window_numbers.specs.Values.{numbers_of}
 use Rattle.qbf_text.proofs.LeadingNumbers.{leads_in_turn}
-use Rattle.qdimacs.specs.declared.grammar.State.TheVariants.{InClause}
+use Rattle.qdimacs.specs.declared.states.State.TheVariants.{InClause}
 use Rattle.qdimacs.proofs.buffered_numbers.take_clause.Goals as goal
 
 pub returns-in-Ok-clause-leads : goal.returns-in-Ok-clause-leads

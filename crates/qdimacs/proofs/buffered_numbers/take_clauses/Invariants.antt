@@ -1,7 +1,7 @@
 use Rattle.qdimacs.proofs.Cited.{◌-◌, ◌≤◌, length, state_at, IsSound, row}
 use Rattle.window_numbers.specs.Values.{numbers_of}
 use Rattle.qbf_text.specs.TakenNumbers.{LeadsOver}
-use Rattle.qdimacs.specs.declared.grammar.State.TheVariants.{Between}
+use Rattle.qdimacs.specs.declared.states.State.TheVariants.{Between}
 use Rattle.qdimacs.proofs.buffered_numbers.take_clauses.Given as goal
 
 abbrev pub invariant-clauses : goal.invariant-clauses
