@@ -14,7 +14,7 @@ use qbf_core::Lit;
 use qrp_rules::{RuleFault, Side};
 use std::alloc::AllocError;
 use trace_items::{Antecedents, KeptSteps};
-use written_steps::{Parts, ShortStep};
+use written_steps::{Parts, ShortResolvent, ShortStep};
 
 /// A step of the core, with the literals of its antecedents.
 #[derive(Clone, Copy)]
@@ -70,17 +70,28 @@ fn shorter<'a, S: Side, T: KeptSteps>(
         step.entry.premises step.entry.lits.now) }
 {
     let prefix = context.formula.prefix();
+    let to = step.lits;
     match (step.premises?, trace.antecedents(step.position)) {
         (Premises::One(_), Antecedents::One(only)) => {
-            let part = parts.for_reduct::<S>(prefix, only, step.lits)?;
+            let part = parts.for_reduct::<S>(prefix, only, to)?;
             Some(Premises::One(part))
         }
         (Premises::Two(a, b), Antecedents::Two(first, second)) => {
             if a.len() > b.len() {
-                let part = parts.for_resolvent::<S>(prefix, first, b, step.lits)?;
+                let resolvent = ShortResolvent {
+                    number: first,
+                    other: b,
+                    to,
+                };
+                let part = parts.for_resolvent::<S>(prefix, resolvent)?;
                 Some(Premises::Two(part, b))
             } else {
-                let part = parts.for_resolvent::<S>(prefix, second, a, step.lits)?;
+                let resolvent = ShortResolvent {
+                    number: second,
+                    other: a,
+                    to,
+                };
+                let part = parts.for_resolvent::<S>(prefix, resolvent)?;
                 Some(Premises::Two(a, part))
             }
         }

@@ -26,7 +26,7 @@ mod written_resolvent;
 pub use clause_index::InitialClauses;
 pub use distinct::push_distinct;
 pub use initial_steps::{InitialSteps, ordered_initial_fault};
-pub use parts::{Part, Parts, ShortStep};
+pub use parts::{Part, Parts, ShortResolvent, ShortStep};
 pub use seen::SeenLits;
 pub use written_reduct::accepts_reduct;
 pub use written_resolvent::accepts_resolvent;

@@ -106,6 +106,17 @@ pub struct ShortStep<'a> {
     pub to: &'a [Lit],
 }
 
+/// A step that follows by resolution from a long list that has a number, and another list.
+#[derive(Clone, Copy)]
+pub struct ShortResolvent<'a> {
+    /// The number of the long list.
+    pub number: u64,
+    /// The literals of the other list.
+    pub other: &'a [Lit],
+    /// The literals of the step.
+    pub to: &'a [Lit],
+}
+
 /// Adds a literal to a list, unless it is reducible.
 fn push_kept(part: &mut Vec<Lit>, reducible: Reducible, lit: Lit) -> Result<(), AllocError>
     ensures within { OnOk result ((l : Literal) → l ∈ part.new.items
@@ -205,22 +216,16 @@ impl Parts {
         Some(lits)
     }
 
-    /// The literals of a part of the list with a number, if a resolvent of them and another list is
+    /// The literals of a part of the list with a number, if a resolvent of them and the other list is
     /// seen to be one of both lists.
-    pub fn for_resolvent<S: Side>(
-        &self,
-        prefix: &Prefix,
-        number: u64,
-        other: &[Lit],
-        to: &[Lit],
-    ) -> Option<&[Lit]>
+    pub fn for_resolvent<S: Side>(&self, prefix: &Prefix, step: ShortResolvent) -> Option<&[Lit]>
         ensures { IfSome result (λ lits. (whole : List Literal)
-            → AreParts S.side prefix.now self.now number whole
-            → lits.now ⊆ whole × ((rules : Rules)
-            → IsSameResolvent rules S.side prefix.now lits.now whole other.now to.now)) }
+            → AreParts S.side prefix.now self.now step.entry.number whole
+            → lits.now ⊆ whole × ((rules : Rules) → IsSameResolvent rules S.side prefix.now lits.now
+            whole step.entry.other.now step.entry.to.now)) }
     {
-        let part = self.find(number)?;
-        let lits = part.for_resolvent::<S>(prefix, other, to)?;
+        let part = self.find(step.number)?;
+        let lits = part.for_resolvent::<S>(prefix, step.other, step.to)?;
         Some(lits)
     }
 
