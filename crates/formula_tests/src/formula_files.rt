@@ -4,7 +4,7 @@
 ghost use Rattle.std.specs.Prelude.{◌<◌};
 
 use qbf_core::Formula;
-use qbf_text::{PieceSink, PieceSource, SinkFault};
+use qbf_text::{PieceOptions, PieceSink, PieceSource, SinkFault};
 use qdimacs::*;
 use std::process::Abort;
 use std::test::Fail;
@@ -59,7 +59,13 @@ fn assert_cut(
     requires piece { 0 < piece }
     requires room { room < 35 }
 {
-    let mut sink = PieceSink::new(rt.alloc(), piece, Some(room), false, 0)?;
+    let options = PieceOptions {
+        piece,
+        room: Some(room),
+        finish_fails: false,
+        reserve: 0,
+    };
+    let mut sink = PieceSink::new(rt.alloc(), options)?;
     assert_eq!(rt; write_formula(formula, &mut sink), Err(SinkFault));
     assert_eq!(rt;
         sink.bytes(),
@@ -73,7 +79,13 @@ fn assert_cut(
 fn leaves_the_sink_unfinished(rt: HostRuntime) -> Result<(), Fail> {
     let formula = read_formula(rt.alloc(), &mut PieceSource::new(FORMULA, 4096, 0))?;
     // A `finish` of this sink fails.
-    let mut sink = PieceSink::new(rt.alloc(), 4096, None, true, 35)?;
+    let options = PieceOptions {
+        piece: 4096,
+        room: None,
+        finish_fails: true,
+        reserve: 35,
+    };
+    let mut sink = PieceSink::new(rt.alloc(), options)?;
     assert!(rt; write_formula(&formula, &mut sink).is_ok());
     assert_eq!(rt; sink.bytes(), FORMULA);
     Ok(())

@@ -127,7 +127,13 @@ fn assert_put_up_to(
 ) -> Result<(), Fail>
     requires { 0 < piece }
 {
-    let mut sink = PieceSink::new(rt.alloc(), piece, Some(room), true, 0)?;
+    let options = PieceOptions {
+        piece,
+        room: Some(room),
+        finish_fails: true,
+        reserve: 0,
+    };
+    let mut sink = PieceSink::new(rt.alloc(), options)?;
     assert_beginning(rt, &mut sink, text, room);
     assert_eq!(rt; sink.push(b"-1"), Ok(piece.min(2)));
     assert_eq!(rt; sink.finish(), Err(SinkFault));
@@ -138,7 +144,13 @@ fn assert_put_up_to(
 fn assert_put(rt: &(impl Abort + AllocGlobal), text: &[u8], piece: usize) -> Result<(), Fail>
     requires { 0 < piece }
 {
-    let mut sink = PieceSink::new(rt.alloc(), piece, Some(10), false, 10)?;
+    let options = PieceOptions {
+        piece,
+        room: Some(10),
+        finish_fails: false,
+        reserve: 10,
+    };
+    let mut sink = PieceSink::new(rt.alloc(), options)?;
     put_bytes(&mut sink, text)?;
     sink.finish()?;
     assert_eq!(rt; sink.bytes(), text);

@@ -5,7 +5,7 @@ ghost use Rattle.std.specs.Prelude.{◌≡◌, ◌≢◌, ◌⊎◌, Some, Ok, E
 ghost use Rattle.qrp_program.specs.declared.open_fault.OpenFault.{OpenFault};
 
 use crate::runs::{REFUTATION, TWO_CLAUSES, VERIFIED, assert_same, sinks};
-use qbf_text::{FromRead, PieceSink, VecSink};
+use qbf_text::{FromRead, PieceOptions, PieceSink, VecSink};
 use qrp_check::Rules;
 use qrp_cli::{Job, request};
 use qrp_program::{LIMIT, Open, OpenFault, Start, Status, program};
@@ -110,7 +110,13 @@ fn answers_to_command_lines(rt: HostRuntime) -> Result<(), Fail> {
 fn words_that_are_not_got(rt: HostRuntime) -> Result<(), Fail> {
     let mut out = VecSink::new(rt.alloc(), 0)?;
     // The status stays if the line does not go out.
-    let mut err = PieceSink::new(rt.alloc(), 4, Some(3), false, 0)?;
+    let options = PieceOptions {
+        piece: 4,
+        room: Some(3),
+        finish_fails: false,
+        reserve: 0,
+    };
+    let mut err = PieceSink::new(rt.alloc(), options)?;
     let status = program::<Job, _, _, _>(rt.alloc(), &FILES, Err(Start::Usage), &mut out, &mut err);
     assert_same(
         &rt,

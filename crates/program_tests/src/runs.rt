@@ -1,6 +1,6 @@
 //! Tests of a run beside the rows of `tests/*.rows`: single pulls and pushes, and those that fail.
 
-use qbf_text::{FromRead, PieceSink, PieceSource, SliceSource, VecSink};
+use qbf_text::{FromRead, PieceOptions, PieceSink, PieceSource, SliceSource, VecSink};
 use qrp_check::Rules;
 use qrp_cli::{Job, run};
 use qrp_program::Status;
@@ -186,12 +186,24 @@ fn assert_cut(
 /// `finish` fails.
 fn assert_beginnings(rt: &(impl Abort + AllocGlobal), job: Job, text: &[u8]) -> Result<(), Fail> {
     for room in 0..text.len() {
-        let mut out = PieceSink::new(rt.alloc(), 1, Some(room as u64), false, 64)?;
-        assert_cut(rt, job, &mut out, &text[..room])?;
-        let mut out = PieceSink::new(rt.alloc(), 4096, Some(room as u64), false, 64)?;
-        assert_cut(rt, job, &mut out, &text[..room])?;
+        for piece in [1, 4096] {
+            let options = PieceOptions {
+                piece,
+                room: Some(room as u64),
+                finish_fails: false,
+                reserve: 64,
+            };
+            let mut out = PieceSink::new(rt.alloc(), options)?;
+            assert_cut(rt, job, &mut out, &text[..room])?;
+        }
     }
-    let mut out = PieceSink::new(rt.alloc(), 4096, None, true, 64)?;
+    let options = PieceOptions {
+        piece: 4096,
+        room: None,
+        finish_fails: true,
+        reserve: 64,
+    };
+    let mut out = PieceSink::new(rt.alloc(), options)?;
     assert_cut(rt, job, &mut out, text)
 }
 

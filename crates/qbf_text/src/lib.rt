@@ -23,7 +23,7 @@ mod spelling;
 mod window;
 
 pub use grammar::{Grammar, Progress, ReadError, Stop, Taken, read_by, read_text};
-pub use pieces::{PieceSink, PieceSource};
+pub use pieces::{PieceOptions, PieceSink, PieceSource};
 pub use scanner::{ScanFault, Scanner};
 pub use sink::{Sink, SinkFault, ToWrite, VecSink, put_byte, put_bytes, put_number};
 pub use source::{FromRead, SliceSource, Source, SourceFault};

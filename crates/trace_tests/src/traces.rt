@@ -7,7 +7,7 @@ ghost use Rattle.trace_items.specs.Inferences.{IsNumber, numbers};
 ghost use Rattle.step_index.specs.Numbers.{is_used};
 
 use qbf_core::{Lit, LitBuffer, Quantifier, Var};
-use qbf_text::{PieceSink, PieceSource, SliceSource, VecSink};
+use qbf_text::{PieceOptions, PieceSink, PieceSource, SliceSource, VecSink};
 use qrp::*;
 use std::alloc::Global;
 use std::process::Abort;
@@ -400,7 +400,13 @@ fn grows_again_after_a_refusal(rt: HostRuntime) -> Result<(), Fail> {
 fn assert_cut(rt: &impl Abort, alloc: Global, trace: &Trace, room: u64) -> Result<(), Fail>
     requires { room ≤ 81 }
 {
-    let mut sink = PieceSink::new(alloc, 1, Some(room), false, 0)?;
+    let options = PieceOptions {
+        piece: 1,
+        room: Some(room),
+        finish_fails: false,
+        reserve: 0,
+    };
+    let mut sink = PieceSink::new(alloc, options)?;
     assert!(rt; write_trace(trace, &mut sink).is_err());
     assert_eq!(rt; sink.bytes(), &TRACE[..room as usize]);
     Ok(())
@@ -410,7 +416,13 @@ fn assert_cut(rt: &impl Abort, alloc: Global, trace: &Trace, room: u64) -> Resul
 fn leaves_the_sink_unfinished(rt: HostRuntime) -> Result<(), Fail> {
     let trace = trace_of(rt.alloc(), TRACE, 4096)?;
     // A `finish` of this sink fails.
-    let mut sink = PieceSink::new(rt.alloc(), 4096, None, true, 82)?;
+    let options = PieceOptions {
+        piece: 4096,
+        room: None,
+        finish_fails: true,
+        reserve: 82,
+    };
+    let mut sink = PieceSink::new(rt.alloc(), options)?;
     assert!(rt; write_trace(&trace, &mut sink).is_ok());
     assert_eq!(rt; sink.bytes(), TRACE);
     Ok(())

@@ -1,7 +1,7 @@
 //! The bytes that come out of a buffer, and of one whose sink fails.
 
 use super::*;
-use qbf_text::{PieceSink, put_byte, put_bytes};
+use qbf_text::{PieceOptions, PieceSink, put_byte, put_bytes};
 use std::alloc::Global;
 use std::fmt::Debug;
 use std::process::Abort;
@@ -14,7 +14,13 @@ fn assert_same<T: Copy + PartialEq + Debug>(rt: &impl Abort, found: T, wanted: T
 
 /// A buffer before a sink that takes 1,000 bytes at a push, and has room for this many or for all.
 fn buffer_of(alloc: Global, room: Option<u64>) -> Result<Buffered<PieceSink>, Fail> {
-    Ok(Buffered::new(PieceSink::new(alloc, 1000, room, false, 0)?))
+    let options = PieceOptions {
+        piece: 1000,
+        room,
+        finish_fails: false,
+        reserve: 0,
+    };
+    Ok(Buffered::new(PieceSink::new(alloc, options)?))
 }
 
 /// Puts 100,000 bytes one by one, and returns them.
