@@ -1,7 +1,8 @@
 -- A text after bytes before it, and the bytes before a number.
 use Rattle.std.proofs.Common.{◌≡◌, ℕ, ◌+◌, ◌≤◌, ◌<◌, List, [], ◌∷◌, ◌++◌, length, take, drop, sym, ap, ◌∙◌, arith, take-append-drop, Bool, true, false, suc, decimal}
 use Rattle.std.proofs.lemmas.Grind.{common_steps}
-use Rattle.std.proofs.lemmas.List.{take-set, take-set-le, take_more_set, drop-set, drop-set-lt, set_split}
+use Rattle.std.proofs.Math.Seq.{drop-append-add}
+use Rattle.std.proofs.lemmas.List.{drop-drop, take-set, take-set-le, take_more_set, drop-set, drop-set-lt, set_split}
 use Rattle.std.specs.Prelude.{set}
 use Rattle.decimal.specs.Digits.{IsPutFrom}
 use Rattle.qbf_tokens.specs.Canonical.{token_text}
@@ -24,6 +25,22 @@ put_behind old mid new front text at behind end inside place fronts same put =
       written = rw whole (grind (arith, common_steps, inside));
       before = rw whole (grind (arith, common_steps, inside));
     }
+
+-- what stands behind a text that is put from a place on
+left_behind : (old mid first : List ℕ) (at behind k : ℕ) → IsPutFrom old mid at behind first → drop (behind + k) mid ≡ drop (behind + k) old
+left_behind old mid first at behind k one =
+    ap (λ n. drop (n + k) mid) one.end_is ∙ sym (drop-drop (length first + k) at mid ∙ ap (λ n. drop n mid) (omega arith))
+    ∙ ap (drop (length first + k)) one.written ∙ drop-append-add first (drop behind old) k ∙ drop-drop k behind old
+
+-- a text is put from a place on, and then another one behind it
+pub put_both : (old mid new first text : List ℕ) (at behind end : ℕ) → at ≤ length old → IsPutFrom old mid at behind first
+    → IsPutFrom mid new behind end text → IsPutFrom old new at end (first ++ text)
+put_both old mid new first text at behind end inside one other =
+    let whole : mid ≡ take at old ++ (first ++ drop behind old) =
+    sym (take-append-drop at mid) ∙ (λ i. one.before i ++ one.written i) in
+    put_behind old mid new first text at behind end inside one.end_is
+    (rw whole (grind (arith, common_steps, inside, one.end_is)))
+    (rw other.end_is (left_behind old mid first at behind (length text) one)) other
 
 -- a blank is put over a minus
 blank_front : (old : List ℕ) (at last : ℕ) → last ≡ at → at < length old

@@ -3,12 +3,13 @@
 ghost use Rattle.std.specs.Prelude.{◌≡◌, ℕ, ◌+◌, ◌-◌, ◌<◌, ◌≤◌, List, [], ◌++◌, length, take, drop};
 ghost use Rattle.std.specs.Prelude.{◌∷◌, true, false, decimal};
 ghost use Rattle.std.specs.Io.KnownBytes.{append_known, Keeps};
+ghost use Rattle.std.specs.List.{flat_map};
 ghost use Rattle.qbf_tokens.specs.Canonical.{token_text};
 ghost use Rattle.qbf_tokens.specs.declared.token.Token.TheVariants.{Number};
 ghost use Rattle.qbf_text.specs.Devices.{Finishes, Pushes};
-ghost use Rattle.qbf_text.specs.Written.{IsPut};
+ghost use Rattle.qbf_text.specs.Written.{IsPut, spaced_text};
 
-use crate::spaced::put_spaced;
+use crate::spaced::{put_four, put_spaced};
 use decimal::put_digits;
 use qbf_text::{Sink, SinkFault};
 use std::marker::Model;
@@ -122,6 +123,21 @@ impl Buffer {
         true
     }
 
+    /// Adds four numbers, each after a blank, if there is room for any four, and returns whether
+    /// there was.
+    #[inline(always)]
+    fn append_four(&mut self, four: [(bool, u64); 4]) -> bool
+        ensures all { result ≡ true → self.new ≡ self.old ++ flat_map spaced_text four }
+        ensures none { result ≡ false → self.new ≡ self.old }
+    {
+        if self.end > ROOM - 4 * LONGEST_SPACED {
+            return false;
+        }
+        let end = put_four(&mut self.bytes, self.end, four);
+        self.end = end;
+        true
+    }
+
     /// Holds a number back, after a blank. Nothing is held before.
     #[tactic(auto, using(crate::proofs::BufferPart::part, crate::proofs::BufferPart::part_put))]
     fn begin_with_spaced(&mut self, negative: bool, n: u64)
@@ -129,6 +145,17 @@ impl Buffer {
         ensures { self.new ≡ 32 ∷ token_text (Number negative n) }
     {
         let end = put_spaced(&mut self.bytes, 0, negative, n);
+        self.start = 0;
+        self.end = end;
+    }
+
+    /// Holds four numbers back, each after a blank. Nothing is held before.
+    #[tactic(auto, using(crate::proofs::BufferPart::part, crate::proofs::BufferPart::part_put))]
+    fn begin_with_four(&mut self, four: [(bool, u64); 4])
+        requires { self.old ≡ [] }
+        ensures { self.new ≡ flat_map spaced_text four }
+    {
+        let end = put_four(&mut self.bytes, 0, four);
         self.start = 0;
         self.end = end;
     }
@@ -252,6 +279,19 @@ impl<S: Sink> Buffered<S> {
         self.buffer.begin_with_spaced(negative, n);
         Ok(())
     }
+
+    /// Sends on what is held back, and then holds four numbers back, each after a blank.
+    #[cold]
+    #[inline(never)]
+    fn flush_then_push_four(&mut self, four: [(bool, u64); 4]) -> Result<(), SinkFault>
+        ensures { IsPut (⟦<Buffered<S> as Sink>⟧.written) (⟦<Buffered<S> as Sink>⟧.failures)
+            (⟦<Buffered<S> as Sink>⟧.failed_last)
+            self.old self.new (flat_map spaced_text four) result }
+    {
+        self.flush_buffer()?;
+        self.buffer.begin_with_four(four);
+        Ok(())
+    }
 }
 
 impl<S: Sink> Sink for Buffered<S> {
@@ -293,6 +333,15 @@ impl<S: Sink> Sink for Buffered<S> {
             Ok(())
         } else {
             self.flush_then_push_spaced(negative, n)
+        }
+    }
+
+    #[inline(always)]
+    fn push_four(&mut self, four: [(bool, u64); 4]) -> Result<(), SinkFault> {
+        if self.buffer.append_four(four) {
+            Ok(())
+        } else {
+            self.flush_then_push_four(four)
         }
     }
 

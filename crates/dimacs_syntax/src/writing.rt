@@ -1,9 +1,9 @@
 //! How a header, literals and sets are written.
 
-ghost use Rattle.std.specs.Prelude.{ℕ, List, [], ◌∷◌, ◌++◌};
+ghost use Rattle.std.specs.Prelude.{◌≡◌, ℕ, List, [], ◌∷◌, ◌++◌};
 ghost use Rattle.std.specs.List.{flat_map};
 ghost use Rattle.qbf_tokens.specs.Canonical.{spaced_number, token_text};
-ghost use Rattle.qbf_text.specs.Written.{IsPut};
+ghost use Rattle.qbf_text.specs.Written.{IsPut, spaced_text};
 ghost use Rattle.qbf_tokens.specs.declared.token.Token.TheVariants.{Number};
 ghost use Rattle.dimacs_syntax.specs.Spelling.{letter};
 ghost use Rattle.dimacs_syntax.specs.Texts.{literal_text};
@@ -32,6 +32,25 @@ impl Put for Lit {
     #[inline(always)]
     fn put<K: Sink>(&self, sink: &mut K) -> Result<(), SinkFault> {
         put_spaced_signed(sink, self.is_negative(), u64::from(self.var().number()))
+    }
+}
+
+/// The sign of a literal, and the number of its variable.
+#[inline(always)]
+fn signed(lit: Lit) -> (bool, u64)
+    ensures { spaced_text result ≡ literal_text lit }
+{
+    (lit.is_negative(), u64::from(lit.var().number()))
+}
+
+/// Four literals, each after a blank.
+impl Put for [Lit; 4] {
+    ghost text = { λ four. flat_map literal_text four };
+
+    #[inline(always)]
+    fn put<K: Sink>(&self, sink: &mut K) -> Result<(), SinkFault> {
+        let [first, second, third, last] = *self;
+        sink.push_four([signed(first), signed(second), signed(third), signed(last)])
     }
 }
 

@@ -29,8 +29,7 @@ pub(crate) fn put_two(
     ensures { OnOk result (clauses.new.whole ≡ clauses.old.whole ++ (one ∷ other ∷ []) ∷ []) }
 {
     clauses.begin();
-    clauses.push(one)?;
-    clauses.push(other)?;
+    clauses.extend(&[one, other])?;
     clauses.close()
 }
 
@@ -45,9 +44,7 @@ fn put_three(
         (clauses.new.whole ≡ clauses.old.whole ++ (one ∷ other ∷ last ∷ []) ∷ []) }
 {
     clauses.begin();
-    clauses.push(one)?;
-    clauses.push(other)?;
-    clauses.push(last)?;
+    clauses.extend(&[one, other, last])?;
     clauses.close()
 }
 

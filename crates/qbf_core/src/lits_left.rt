@@ -1,6 +1,6 @@
 //! Literals that are read one by one, wherever they lie.
 
-ghost use Rattle.std.specs.Prelude.{◌≡◌, [], ◌∷◌, IfNone, IfSome};
+ghost use Rattle.std.specs.Prelude.{◌≡◌, [], ◌∷◌, ◌++◌, IfNone, IfSome};
 ghost use Rattle.qbf_core.specs.Packed.{fours, ones, twos, unpacked, AreLiterals};
 
 use crate::literal::Lit;
@@ -93,6 +93,24 @@ impl<'a> LitsLeft<'a> {
             [_, rest @ ..] => Kept::Fours(rest),
         };
         LitsLeft { kept }
+    }
+
+    /// The next four literals, which are no longer left, if they lie in one byte each. If they do
+    /// not, or are fewer, none is taken.
+    #[inline(always)]
+    pub fn next_four(&mut self) -> Option<[Lit; 4]>
+        ensures some { IfSome result (λ four. self.old ≡ four ++ self.new) }
+        ensures none { IfNone result (self.new ≡ self.old) }
+    {
+        let Kept::Ones(bytes) = self.kept else {
+            return None;
+        };
+        let [a, b, c, d, rest @ ..] = bytes else {
+            return None;
+        };
+        let four = [of_one(*a), of_one(*b), of_one(*c), of_one(*d)];
+        self.kept = Kept::Ones(rest);
+        Some(four)
     }
 
     /// The next literal, which is no longer left.

@@ -71,6 +71,16 @@ pub length_at : {X : Type 0} (xs : List X) (places : List ℕ) → AllByRecursio
 length_at xs [] inside = refl
 length_at xs (p ∷ places) inside = grind (arith, common_steps, slice_get_cases, length_at xs places inside.1)
 
+-- the texts of four items
+pub four_texts : {X : Type 0} (f : X → List ℕ) (four : List X) (p q r s : X) → length four ≡ 4
+    → f (get_or four 0 p) ++ (f (get_or four 1 q) ++ (f (get_or four 2 r) ++ f (get_or four 3 s))) ≡ flat_map f four
+four_texts f [] p q r s count = absurd (omega (arith, count))
+four_texts f (a ∷ []) p q r s count = absurd (omega (arith, count))
+four_texts f (a ∷ b ∷ []) p q r s count = absurd (omega (arith, count))
+four_texts f (a ∷ b ∷ c ∷ []) p q r s count = absurd (omega (arith, count))
+four_texts f (a ∷ b ∷ c ∷ d ∷ []) p q r s count = grind (arith, common_steps, flat_map)
+four_texts f (a ∷ b ∷ c ∷ d ∷ e ∷ four) p q r s count = absurd (omega (arith, count))
+
 module _ {S : Type 0} {written : S → Option (List ℕ)} {failures : S → ℕ} where
   sent_step : (a b c : S) (whole rest part more : List ℕ) → IsSent written failures a b whole rest → rest ≡ part ++ more
       → Appends (written b) (written c) part → failures c ≡ failures b → IsSent written failures a c whole more

@@ -10,7 +10,7 @@ use qbf_text::Source;
 use std::alloc::Global;
 
 /// The number of bytes that are pulled at once.
-const PIECE: usize = 4096;
+const PIECE: usize = 65536;
 
 /// Adds the bytes of one pull to a text, and says whether there may be more.
 ///

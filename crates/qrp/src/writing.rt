@@ -60,13 +60,16 @@ impl Put for ResultLine {
     }
 }
 
-/// Literals, read one by one.
+/// Literals, read four at a time as long as they lie so, and then one by one.
 #[inline(always)]
 fn put_lits<K: Sink>(sink: &mut K, lits: LitsLeft) -> Result<(), SinkFault>
     ensures { IsPut K.written K.failures K.failed_last sink.old sink.new
         (flat_map literal_text lits.entry) result }
 {
     let mut left = lits;
+    'fours: while let Some(four) = left.next_four() {
+        four.put(sink)?;
+    }
     'literals: while let Some(lit) = left.next() {
         lit.put(sink)?;
     }

@@ -7,7 +7,7 @@ invariant-pieces g l = record {
   bytes : Consumes (g.S.Source.remaining l.initial.source) (g.S.Source.remaining l.source) l.text.items;
   at_end : l.more ≡ false → IsAtEnd (g.S.Source.remaining l.source);
   works : g.S.Source.failures l.source ≡ g.S.Source.failures l.initial.source;
-  room : length l.piece ≡ 4096;
+  room : length l.piece ≡ 65536;
 }
 
 abbrev pub decreases-pieces : goal.decreases-pieces
