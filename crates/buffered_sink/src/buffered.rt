@@ -150,6 +150,7 @@ impl Buffer {
     }
 
     /// Holds four numbers back, each after a blank. Nothing is held before.
+    #[inline(always)]
     #[tactic(auto, using(crate::proofs::BufferPart::part, crate::proofs::BufferPart::part_put))]
     fn begin_with_four(&mut self, four: [(bool, u64); 4])
         requires { self.old ≡ [] }
@@ -211,6 +212,8 @@ impl<S: Sink> Buffered<S> {
     }
 
     /// Sends on what is held back.
+    #[cold]
+    #[inline(never)]
     fn flush_buffer(&mut self) -> Result<(), SinkFault>
         ensures { Finishes (⟦<Buffered<S> as Sink>⟧.written)
             (⟦<Buffered<S> as Sink>⟧.failures) (λ b. b.buffer ≡ [])
@@ -279,19 +282,6 @@ impl<S: Sink> Buffered<S> {
         self.buffer.begin_with_spaced(negative, n);
         Ok(())
     }
-
-    /// Sends on what is held back, and then holds four numbers back, each after a blank.
-    #[cold]
-    #[inline(never)]
-    fn flush_then_push_four(&mut self, four: [(bool, u64); 4]) -> Result<(), SinkFault>
-        ensures { IsPut (⟦<Buffered<S> as Sink>⟧.written) (⟦<Buffered<S> as Sink>⟧.failures)
-            (⟦<Buffered<S> as Sink>⟧.failed_last)
-            self.old self.new (flat_map spaced_text four) result }
-    {
-        self.flush_buffer()?;
-        self.buffer.begin_with_four(four);
-        Ok(())
-    }
 }
 
 impl<S: Sink> Sink for Buffered<S> {
@@ -338,11 +328,12 @@ impl<S: Sink> Sink for Buffered<S> {
 
     #[inline(always)]
     fn push_four(&mut self, four: [(bool, u64); 4]) -> Result<(), SinkFault> {
-        if self.buffer.append_four(four) {
-            Ok(())
-        } else {
-            self.flush_then_push_four(four)
+        // Nothing but this takes the numbers, so they need no place in memory.
+        if !self.buffer.append_four(four) {
+            self.flush_buffer()?;
+            self.buffer.begin_with_four(four);
         }
+        Ok(())
     }
 
     fn finish(&mut self) -> Result<(), SinkFault> {

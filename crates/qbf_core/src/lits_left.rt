@@ -102,15 +102,13 @@ impl<'a> LitsLeft<'a> {
         ensures some { IfSome result (λ four. self.old ≡ four ++ self.new) }
         ensures none { IfNone result (self.new ≡ self.old) }
     {
-        let Kept::Ones(bytes) = self.kept else {
-            return None;
-        };
-        let [a, b, c, d, rest @ ..] = bytes else {
-            return None;
-        };
-        let four = [of_one(*a), of_one(*b), of_one(*c), of_one(*d)];
-        self.kept = Kept::Ones(rest);
-        Some(four)
+        match self.kept {
+            Kept::Ones([a, b, c, d, rest @ ..]) => {
+                self.kept = Kept::Ones(rest);
+                Some([of_one(*a), of_one(*b), of_one(*c), of_one(*d)])
+            }
+            _ => None,
+        }
     }
 
     /// The next literal, which is no longer left.
