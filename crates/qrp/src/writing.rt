@@ -5,6 +5,7 @@ ghost use Rattle.std.proofs.Props.{props};
 ghost use Rattle.std.specs.List.{AllByRecursion, flat_map};
 ghost use Rattle.qbf_tokens.specs.Canonical.{line_text, spaced_number};
 ghost use Rattle.qbf_text.specs.Written.{IsPut};
+ghost use Rattle.trace_items.specs.Antecedents.{listed};
 ghost use Rattle.trace_items.specs.Derivations.{steps_at, with_steps_at};
 ghost use Rattle.qrp.specs.Framed.{framed};
 ghost use Rattle.qrp.specs.Grammar.{header, result as result_line, text};
@@ -78,19 +79,32 @@ fn put_lits<K: Sink>(sink: &mut K, lits: LitsLeft) -> Result<(), SinkFault>
 
 /// The rest of the line of a step after its literals, with these antecedents.
 #[inline(always)]
-fn put_ants<K: Sink>(sink: &mut K, ants: &[u64]) -> Result<(), SinkFault>
+fn put_rest<K: Sink>(sink: &mut K, ants: &[u64]) -> Result<(), SinkFault>
     ensures { IsPut K.written K.failures K.failed_last sink.old sink.new
         (32 ∷ 48 ∷ (flat_map spaced_number ants.now ++ closing)) result }
 {
     (Bytes(b" 0"), (ants, Bytes(b" 0\n"))).put(sink)
 }
 
+/// The same, however the antecedents are kept.
+#[inline(always)]
+fn put_ants<K: Sink>(sink: &mut K, ants: Antecedents) -> Result<(), SinkFault>
+    ensures { IsPut K.written K.failures K.failed_last sink.old sink.new
+        (32 ∷ 48 ∷ (flat_map spaced_number (listed ants) ++ closing)) result }
+{
+    match ants {
+        Antecedents::Empty => put_rest(sink, &[]),
+        Antecedents::One(only) => put_rest(sink, &[only]),
+        Antecedents::Two(first, second) => put_rest(sink, &[first, second]),
+    }
+}
+
 /// The literals of a step, and the rest of its line.
 #[inline(always)]
-fn put_lists<K: Sink>(sink: &mut K, lits: LitsLeft, ants: &[u64]) -> Result<(), SinkFault>
+fn put_lists<K: Sink>(sink: &mut K, lits: LitsLeft, ants: Antecedents) -> Result<(), SinkFault>
     ensures { IsPut K.written K.failures K.failed_last sink.old sink.new
         (flat_map literal_text lits.entry
-        ++ (32 ∷ 48 ∷ (flat_map spaced_number ants.now ++ closing))) result }
+        ++ (32 ∷ 48 ∷ (flat_map spaced_number (listed ants) ++ closing))) result }
 {
     put_lits(sink, lits)?;
     put_ants(sink, ants)
@@ -102,10 +116,10 @@ fn put_line<K: Sink>(
     sink: &mut K,
     number: u64,
     lits: LitsLeft,
-    ants: &[u64],
+    ants: Antecedents,
 ) -> Result<(), SinkFault>
     ensures { IsPut K.written K.failures K.failed_last sink.old sink.new
-        (step_text (record { number = number; lits = lits.entry; ants = ants.now })) result }
+        (step_text (record { number = number; lits = lits.entry; ants = listed ants })) result }
 {
     Bare(false, number).put(sink)?;
     put_lists(sink, lits, ants)
@@ -123,11 +137,7 @@ fn put_step<K: Sink, T: KeptSteps>(
         → IsPut K.written K.failures K.failed_last sink.old sink.new (step_text step) result }
 {
     let (number, lits) = (trace.number(position), trace.lits_left(position));
-    match trace.antecedents(position) {
-        Antecedents::Empty => put_line(sink, number, lits, &[]),
-        Antecedents::One(only) => put_line(sink, number, lits, &[only]),
-        Antecedents::Two(first, second) => put_line(sink, number, lits, &[first, second]),
-    }
+    put_line(sink, number, lits, trace.antecedents(position))
 }
 
 /// The lines of all steps.
