@@ -14,6 +14,7 @@ use crate::fault::CoreFault;
 use crate::hints::Hints;
 use crate::premises::{PremiseBuffers, find_premises};
 use crate::step::{CheckState, Context};
+use crate::step_at::StepAt;
 use crate::uneven::{FoundStep, JudgeState, judge};
 use qbf_core::{Lit, LitBuffer};
 use qrp_rules::{RuleFault, Side};
@@ -30,39 +31,33 @@ pub(crate) struct WalkState {
     buffers: PremiseBuffers,
 }
 
-/// Why the step of the core at a position, with its literals as they are written, does not follow
-/// from those before it, or `None` if it does.
+/// Why a step of the core, with its literals as they are written, does not follow from those before
+/// it, or `None` if it does.
 ///
 /// # Errors
 /// If an allocation fails.
 #[inline(always)]
 fn judge_written<S: Side, T: KeptSteps>(
     context: Context,
-    trace: &T,
-    position: usize,
+    place: StepAt<'_, T>,
     lits: &[Lit],
     state: &mut WalkState,
 ) -> Result<Option<RuleFault>, AllocError>
-    requires core { IsInCore (T.steps trace.now) position }
-    requires lits { (step : Inference) → IsAt (T.steps trace.now) position step
+    requires core { IsInCore (T.steps place.trace.now) place.position }
+    requires lits { (step : Inference) → IsAt (T.steps place.trace.now) place.position step
         → lits.now ≡ step.lits }
-    requires before { IsFollowed context.rules S.side context.formula.now (T.steps trace.now)
-        position state.old }
+    requires before { IsFollowed context.rules S.side context.formula.now (T.steps place.trace.now)
+        place.position state.old }
     ensures fault { IfOk result (IsAnswerAt context.entry.rules S.side context.entry.formula.now
-        (T.steps trace.now) position) }
+        (T.steps place.entry.trace.now) place.entry.position) }
     ensures known { OnOk result (AreKnown context.entry.formula.now
         state.new.judged.tests.initial) }
     ensures parts { OnOk result (ArePartsOf S.side context.entry.formula.now.blocks
-        (T.steps trace.now) state.new.judged.parts) }
+        (T.steps place.entry.trace.now) state.new.judged.parts) }
     ensures kept { state.new.distinct ≡ state.old.distinct }
 {
-    match find_premises(
-        trace,
-        &state.distinct,
-        position,
-        &mut state.hints,
-        &mut state.buffers,
-    ) {
+    let StepAt { trace, position } = place;
+    match find_premises(place, &state.distinct, &mut state.hints, &mut state.buffers) {
         Ok(Some(found)) => {
             let step = FoundStep {
                 position,
@@ -83,27 +78,27 @@ fn judge_written<S: Side, T: KeptSteps>(
     }
 }
 
-/// Follows the step of the core at a position, with its literals as they are written, after those
-/// before it.
+/// Follows a step of the core, with its literals as they are written, after those before it.
 #[inline(always)]
 fn follow_written<S: Side, T: KeptSteps>(
     context: Context,
-    trace: &T,
-    position: usize,
+    place: StepAt<'_, T>,
     lits: &[Lit],
     state: &mut WalkState,
 ) -> Result<(), CoreFault>
-    requires core { IsInCore (T.steps trace.now) position }
-    requires lits { (step : Inference) → IsAt (T.steps trace.now) position step
+    requires core { IsInCore (T.steps place.trace.now) place.position }
+    requires lits { (step : Inference) → IsAt (T.steps place.trace.now) place.position step
         → lits.now ≡ step.lits }
-    requires before { IsFollowed context.rules S.side context.formula.now (T.steps trace.now)
-        position state.old }
+    requires before { IsFollowed context.rules S.side context.formula.now (T.steps place.trace.now)
+        place.position state.old }
     ensures follows { OnOk result (IsFollowed context.entry.rules S.side context.entry.formula.now
-        (T.steps trace.now) (position + 1) state.new) }
+        (T.steps place.entry.trace.now) (place.entry.position + 1) state.new) }
     ensures refused { IfErr result
-        (IsCoreFault context.entry.rules S.side context.entry.formula.now (T.steps trace.now)) }
+        (IsCoreFault context.entry.rules S.side context.entry.formula.now
+        (T.steps place.entry.trace.now)) }
 {
-    match judge_written::<S, T>(context, trace, position, lits, state)? {
+    let StepAt { trace, position } = place;
+    match judge_written::<S, T>(context, place, lits, state)? {
         None => Ok(
             state
                 .distinct
@@ -140,7 +135,7 @@ fn follow_step<S: Side, T: KeptSteps>(
         Ok(lits) => lits,
         Err(_) => return Err(CoreFault::OutOfMemory),
     };
-    follow_written::<S, T>(context, trace, position, lits, &mut walk.state)
+    follow_written::<S, T>(context, StepAt { trace, position }, lits, &mut walk.state)
 }
 
 /// Goes over the marked steps, which are the core, while each follows from those before it.

@@ -19,6 +19,7 @@ mod hints;
 mod marks;
 mod premises;
 mod step;
+mod step_at;
 mod uneven;
 mod walking;
 

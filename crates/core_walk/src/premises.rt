@@ -7,6 +7,7 @@ ghost use Rattle.core_walk.specs.Premises.{ArePremises};
 
 use crate::distinct_lits::DistinctLits;
 use crate::hints::Hints;
+use crate::step_at::StepAt;
 use qbf_core::{Lit, LitBuffer};
 use std::alloc::AllocError;
 use trace_items::{Antecedents, KeptSteps};
@@ -29,25 +30,25 @@ pub(crate) struct PremiseBuffers {
     pub(crate) second: LitBuffer,
 }
 
-/// The literals of the antecedents of the step at a position, or `None` if one of them is not the
-/// number of an earlier step.
+/// The literals of the antecedents of a step, or `None` if one of them is not the number of an
+/// earlier step.
 ///
 /// # Errors
 /// If an allocation fails.
 #[inline(always)]
 pub(crate) fn find_premises<'a, T: KeptSteps>(
-    trace: &'a T,
+    place: StepAt<'a, T>,
     distinct: &'a DistinctLits,
-    position: usize,
     hints: &mut Hints,
     buffers: &'a mut PremiseBuffers,
 ) -> Result<Option<Premises<'a>>, AllocError>
-    requires position { position < length (T.steps trace.now) }
-    requires kept { AreKept (T.steps trace.now) distinct.now }
+    requires position { place.position < length (T.steps place.trace.now) }
+    requires kept { AreKept (T.steps place.trace.now) distinct.now }
     ensures { IfOk result (λ found. (step : Inference)
-        → IsAt (T.steps trace.now) position step
-        → ArePremises (take position (T.steps trace.now)) step.ants found) }
+        → IsAt (T.steps place.entry.trace.now) place.entry.position step
+        → ArePremises (take place.entry.position (T.steps place.entry.trace.now)) step.ants found) }
 {
+    let StepAt { trace, position } = place;
     match trace.antecedents(position) {
         Antecedents::Empty => Ok(Some(Premises::Initial)),
         Antecedents::One(only) => {
