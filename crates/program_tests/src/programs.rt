@@ -4,11 +4,11 @@
 ghost use Rattle.std.specs.Prelude.{◌≡◌, ◌≢◌, ◌⊎◌, Some, Ok, Err, codes};
 ghost use Rattle.qrp_program.specs.declared.open_fault.OpenFault.{OpenFault};
 
-use crate::runs::{REFUTATION, TWO_CLAUSES, VERIFIED, assert_same, sinks};
+use crate::runs::{REFUTATION, TWO_CLAUSES, VERIFIED, assert_same, empty_streams};
 use qbf_text::{FromRead, PieceOptions, PieceSink, VecSink};
 use qrp_check::Rules;
 use qrp_cli::{Job, request};
-use qrp_program::{LIMIT, Open, OpenFault, Start, Status, program};
+use qrp_program::{LIMIT, Open, OpenFault, Start, Status, Streams, program};
 use std::alloc::{AllocError, Global};
 use std::test::Fail;
 
@@ -65,14 +65,17 @@ fn asks_for_a_job(rt: HostRuntime) -> Result<(), Fail> {
 }
 
 /// The bytes that the program writes on these arguments, and its status.
-fn run_on_words(alloc: Global, words: &[&str]) -> Result<(VecSink, VecSink, Status), Fail> {
-    let (mut out, mut err) = sinks(alloc)?;
+fn run_on_words(
+    alloc: Global,
+    words: &[&str],
+) -> Result<(Streams<VecSink, VecSink>, Status), Fail> {
+    let mut streams = empty_streams(alloc)?;
     let words = given(alloc, words)?;
-    let status = program::<Job, _, _, _>(alloc, &FILES, Ok(words), &mut out, &mut err);
-    Ok((out, err, status))
+    let status = program::<Job, _, _, _>(alloc, &FILES, Ok(words), &mut streams);
+    Ok((streams, status))
 }
 
-/// Words of a command line, the bytes that go to the two sinks, and the status.
+/// Words of a command line, the bytes that go to the two streams, and the status.
 type Answer = (
     &'static [&'static str],
     &'static [u8],
@@ -95,10 +98,10 @@ const ANSWERS: [Answer; 6] = [
 #[test]
 fn answers_to_command_lines(rt: HostRuntime) -> Result<(), Fail> {
     for (words, to_out, to_err, wanted) in ANSWERS {
-        let (out, err, status) = run_on_words(rt.alloc(), words)?;
+        let (streams, status) = run_on_words(rt.alloc(), words)?;
         assert_same(
             &rt,
-            (out.bytes(), err.bytes(), status),
+            (streams.out.bytes(), streams.err.bytes(), status),
             (to_out, to_err, wanted),
             &words,
         );
@@ -108,7 +111,7 @@ fn answers_to_command_lines(rt: HostRuntime) -> Result<(), Fail> {
 
 #[test]
 fn words_that_are_not_got(rt: HostRuntime) -> Result<(), Fail> {
-    let mut out = VecSink::new(rt.alloc(), 0)?;
+    let out = VecSink::new(rt.alloc(), 0)?;
     // The status stays if the line does not go out.
     let options = PieceOptions {
         piece: 4,
@@ -116,11 +119,12 @@ fn words_that_are_not_got(rt: HostRuntime) -> Result<(), Fail> {
         finish_fails: false,
         reserve: 0,
     };
-    let mut err = PieceSink::new(rt.alloc(), options)?;
-    let status = program::<Job, _, _, _>(rt.alloc(), &FILES, Err(Start::Usage), &mut out, &mut err);
+    let err = PieceSink::new(rt.alloc(), options)?;
+    let mut streams = Streams { out, err };
+    let status = program::<Job, _, _, _>(rt.alloc(), &FILES, Err(Start::Usage), &mut streams);
     assert_same(
         &rt,
-        (err.bytes(), status),
+        (streams.err.bytes(), status),
         (b"USA".as_slice(), 5),
         &Start::Usage,
     );

@@ -3,7 +3,7 @@
 use qbf_text::{FromRead, PieceOptions, PieceSink, PieceSource, SliceSource, VecSink};
 use qrp_check::Rules;
 use qrp_cli::{Job, run};
-use qrp_program::Status;
+use qrp_program::{Sources, Status, Streams};
 use std::alloc::Global;
 use std::fmt::Debug;
 use std::process::Abort;
@@ -34,23 +34,24 @@ pub fn assert_same<T: Copy + PartialEq + Debug>(
     assert_eq!(rt; found, wanted, "at {place:?}");
 }
 
-/// Two sinks that have nothing yet.
+/// Two streams that have nothing yet.
 ///
 /// # Errors
 /// If an allocation fails.
-pub fn sinks(alloc: Global) -> Result<(VecSink, VecSink), Fail> {
-    Ok((VecSink::new(alloc, 0)?, VecSink::new(alloc, 0)?))
+pub fn empty_streams(alloc: Global) -> Result<Streams<VecSink, VecSink>, Fail> {
+    let out = VecSink::new(alloc, 0)?;
+    let err = VecSink::new(alloc, 0)?;
+    Ok(Streams { out, err })
 }
 
 /// A formula and a trace, which are pulled byte by byte, each with the number of the pull that
 /// fails, or 0.
 type Texts<'a> = ((&'a [u8], u64), (&'a [u8], u64));
 
-/// The bytes that a run writes to its sinks, its status, and how often it pulls the trace.
+/// The bytes that a run writes to its streams, its status, and how often it pulls the trace.
 #[derive(Drop)]
 struct Ran {
-    out: VecSink,
-    err: VecSink,
+    streams: Streams<VecSink, VecSink>,
     status: Status,
     pulls: u64,
 }
@@ -58,19 +59,20 @@ struct Ran {
 /// Runs a job.
 fn run_on(alloc: Global, job: Job, texts: Texts<'_>) -> Result<Ran, Fail> {
     let ((formula, formula_fails_at), (trace, trace_fails_at)) = texts;
-    let mut formula = PieceSource::new(formula, 1, formula_fails_at);
-    let mut trace = PieceSource::new(trace, 1, trace_fails_at);
-    let (mut out, mut err) = sinks(alloc)?;
-    let status = run(alloc, job, &mut formula, &mut trace, &mut out, &mut err);
+    let mut sources = Sources {
+        formula: PieceSource::new(formula, 1, formula_fails_at),
+        trace: PieceSource::new(trace, 1, trace_fails_at),
+    };
+    let mut streams = empty_streams(alloc)?;
+    let status = run(alloc, job, &mut sources, &mut streams);
     Ok(Ran {
-        out,
-        err,
+        streams,
         status,
-        pulls: trace.pulls(),
+        pulls: sources.trace.pulls(),
     })
 }
 
-/// Compares the bytes that a run writes to its sinks, its status, and how often it pulls the trace,
+/// Compares the bytes that a run writes to its streams, its status, and how often it pulls the trace,
 /// with these.
 fn assert_run(
     rt: &(impl Abort + AllocGlobal),
@@ -79,7 +81,8 @@ fn assert_run(
     wanted: (&[u8], &[u8], Status, u64),
 ) -> Result<(), Fail> {
     let ran = run_on(rt.alloc(), job, texts)?;
-    let found = (ran.out.bytes(), ran.err.bytes(), ran.status, ran.pulls);
+    let (out, err) = (ran.streams.out.bytes(), ran.streams.err.bytes());
+    let found = (out, err, ran.status, ran.pulls);
     assert_same(rt, found, wanted, &job);
     Ok(())
 }
@@ -142,43 +145,53 @@ fn sources_that_fail_are_reported(rt: HostRuntime) -> Result<(), Fail> {
     assert_run(&rt, check, texts, (VERIFIED, b"", 0, 82))
 }
 
-/// The line of a check of a formula that is read up to a limit, and its status.
-fn check_up_to(alloc: Global, limit: u64) -> Result<(VecSink, Status), Fail> {
-    let mut formula = FromRead::new(TWO_CLAUSES, limit);
-    let mut trace = SliceSource::new(REFUTATION);
-    let (mut out, mut err) = sinks(alloc)?;
+/// Checks the worked texts, the formula read up to a limit, and returns the streams and the status.
+fn check_up_to(alloc: Global, limit: u64) -> Result<(Streams<VecSink, VecSink>, Status), Fail> {
+    let mut sources = Sources {
+        formula: FromRead::new(TWO_CLAUSES, limit),
+        trace: SliceSource::new(REFUTATION),
+    };
+    let mut streams = empty_streams(alloc)?;
     let job = Job::Check(Rules::plain());
-    let status = run(alloc, job, &mut formula, &mut trace, &mut out, &mut err);
-    Ok((out, status))
+    let status = run(alloc, job, &mut sources, &mut streams);
+    Ok((streams, status))
 }
 
 #[test]
 fn a_reader_fails_past_its_limit(rt: HostRuntime) -> Result<(), Fail> {
     for (limit, wanted) in [(35u64, (NO_FORMULA, 3)), (36, (VERIFIED, 0))] {
-        let (out, status) = check_up_to(rt.alloc(), limit)?;
-        assert_same(&rt, (out.bytes(), status), wanted, &limit);
+        let (streams, status) = check_up_to(rt.alloc(), limit)?;
+        assert_same(&rt, (streams.out.bytes(), status), wanted, &limit);
     }
     Ok(())
 }
 
-/// Runs a job on the worked texts, and returns its other sink and the status.
-fn run_into(alloc: Global, job: Job, out: &mut PieceSink) -> Result<(VecSink, Status), Fail> {
-    let mut formula = SliceSource::new(TWO_CLAUSES);
-    let mut trace = SliceSource::new(REFUTATION);
-    let mut err = VecSink::new(alloc, 0)?;
-    let status = run(alloc, job, &mut formula, &mut trace, out, &mut err);
-    Ok((err, status))
+/// Runs a job on the worked texts with this sink, and returns the streams and the status.
+fn run_into(
+    alloc: Global,
+    job: Job,
+    out: PieceSink,
+) -> Result<(Streams<PieceSink, VecSink>, Status), Fail> {
+    let mut sources = Sources {
+        formula: SliceSource::new(TWO_CLAUSES),
+        trace: SliceSource::new(REFUTATION),
+    };
+    let err = VecSink::new(alloc, 0)?;
+    let mut streams = Streams { out, err };
+    let status = run(alloc, job, &mut sources, &mut streams);
+    Ok((streams, status))
 }
 
-/// A run into this sink fails after these bytes, and the other sink gets nothing.
+/// A run into this sink fails after these bytes, and the other stream gets nothing.
 fn assert_cut(
     rt: &(impl Abort + AllocGlobal),
     job: Job,
-    out: &mut PieceSink,
+    out: PieceSink,
     kept: &[u8],
 ) -> Result<(), Fail> {
-    let (err, status) = run_into(rt.alloc(), job, out)?;
-    assert_same(rt, (out.bytes(), err.bytes(), status), (kept, b"", 3), &job);
+    let (streams, status) = run_into(rt.alloc(), job, out)?;
+    let (out, err) = (streams.out.bytes(), streams.err.bytes());
+    assert_same(rt, (out, err, status), (kept, b"", 3), &job);
     Ok(())
 }
 
@@ -193,8 +206,8 @@ fn assert_beginnings(rt: &(impl Abort + AllocGlobal), job: Job, text: &[u8]) -> 
                 finish_fails: false,
                 reserve: 64,
             };
-            let mut out = PieceSink::new(rt.alloc(), options)?;
-            assert_cut(rt, job, &mut out, &text[..room])?;
+            let out = PieceSink::new(rt.alloc(), options)?;
+            assert_cut(rt, job, out, &text[..room])?;
         }
     }
     let options = PieceOptions {
@@ -203,8 +216,8 @@ fn assert_beginnings(rt: &(impl Abort + AllocGlobal), job: Job, text: &[u8]) -> 
         finish_fails: true,
         reserve: 64,
     };
-    let mut out = PieceSink::new(rt.alloc(), options)?;
-    assert_cut(rt, job, &mut out, text)
+    let out = PieceSink::new(rt.alloc(), options)?;
+    assert_cut(rt, job, out, text)
 }
 
 #[test]

@@ -1,14 +1,6 @@
 //! The jobs of the program.
 
-ghost use Rattle.qrp_cli.specs.Output.{IsOutput, refusals};
-ghost use Rattle.qrp_cli.specs.Words.{IsRow};
-
-use crate::running::run;
-use crate::words::request;
-use qbf_text::{Sink, Source};
 use qrp_check::Rules;
-use qrp_program::{Jobs, Status, Stream};
-use std::alloc::Global;
 
 /// A job that the program is to do.
 #[derive(Clone, Copy, Debug, PartialEq, Eq)]
@@ -19,34 +11,4 @@ pub enum Job {
     Trim(Rules),
     /// Prints the canonical text of the formula.
     Format,
-}
-
-impl Jobs for Job {
-    ghost is_row = { IsRow };
-
-    ghost refusals = { refusals };
-
-    ghost is_output = { IsOutput };
-
-    fn request(words: &[String]) -> Option<(Job, usize, Option<usize>)> {
-        request(words)
-    }
-
-    fn refused_on(self) -> Stream {
-        match self {
-            Job::Check(_) => Stream::Out,
-            Job::Trim(_) | Job::Format => Stream::Errors,
-        }
-    }
-
-    fn run<F: Source, T: Source, O: Sink, E: Sink>(
-        self,
-        alloc: Global,
-        formula: &mut F,
-        trace: &mut T,
-        out: &mut O,
-        err: &mut E,
-    ) -> Status {
-        run(alloc, self, formula, trace, out, err)
-    }
 }

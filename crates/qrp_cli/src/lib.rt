@@ -12,6 +12,7 @@
 #![tactic(auto)]
 
 mod job;
+mod program;
 mod running;
 mod words;
 

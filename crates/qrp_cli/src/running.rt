@@ -1,4 +1,4 @@
-//! A job from its sources to its sinks.
+//! A job from its sources to its streams.
 
 ghost use Rattle.std.specs.Prelude.{◌≡◌, ◌<◌, List, ℕ, Some, Result, IfOk, length};
 ghost use Rattle.std.specs.List.{AllByRecursion};
@@ -25,7 +25,7 @@ use qbf_text::{Sink, Source};
 use qdimacs::{read_formula, write_formula};
 use qrp::write_steps_at;
 use qrp_check::{Fault, Rules, Verified, find_proof, find_truth};
-use qrp_program::{Status, finish_sent, send_fault};
+use qrp_program::{Sources, Status, Streams, finish_sent, send_fault};
 use qrp_report::put_verdict;
 use std::alloc::Global;
 use trace_items::CompactTrace;
@@ -69,18 +69,17 @@ fn send_checked<O: Sink>(out: &mut O, checked: Result<bool, Fault>) -> Status
 
 /// Sends the trimmed trace to `out`, or the line for the first fault to `err`.
 fn send_proof<O: Sink, E: Sink>(
-    out: &mut O,
-    err: &mut E,
+    streams: &mut Streams<O, E>,
     proof: Result<(CompactTrace, Verified), Fault>,
 ) -> Status
     requires within { IfOk proof (λ r.
         AllByRecursion (λ i. i < length r.0.steps) r.1.core.items) }
-    ensures { (rules : Rules) → IsReported O.Sink out.old out.new E.Sink err.old err.new
+    ensures { (rules : Rules) → IsReported O.Sink E.Sink streams.old streams.new
         (trim_report rules (trimmed_result proof)) result }
 {
     match proof {
-        Ok((whole, verified)) => send_trimmed(out, &whole, &verified),
-        Err(fault) => send_fault(err, &fault),
+        Ok((whole, verified)) => send_trimmed(&mut streams.out, &whole, &verified),
+        Err(fault) => send_fault(&mut streams.err, &fault),
     }
 }
 
@@ -88,20 +87,20 @@ fn send_proof<O: Sink, E: Sink>(
 fn run_check<F: Source, T: Source, O: Sink>(
     alloc: Global,
     rules: Rules,
-    formula: &mut F,
-    trace: &mut T,
+    sources: &mut Sources<F, T>,
     out: &mut O,
 ) -> Status
     ensures report { (checked : Result Verified Fault)
-        × IsChecked rules (call_of F.Source formula.old formula.new)
-        (call_of T.Source trace.old trace.new) checked
-        × StopsOnceRead (T.remaining trace.old) (T.remaining trace.new) checked
+        × IsChecked rules (call_of F.Source sources.old.formula sources.new.formula)
+        (call_of T.Source sources.old.trace sources.new.trace) checked
+        × StopsOnceRead (T.remaining sources.old.trace) (T.remaining sources.new.trace) checked
         × IsReportedTo O.Sink out.old out.new (check_report rules checked) result }
-    ensures headline { (a b : List ℕ) → F.remaining formula.old ≡ Some a
-        → T.remaining trace.old ≡ Some b → result ≡ 0
+    ensures headline { (a b : List ℕ) → F.remaining sources.old.formula ≡ Some a
+        → T.remaining sources.old.trace ≡ Some b → result ≡ 0
         → PrintsVerdict O.Sink out.old out.new rules a b }
 {
-    send_checked(out, find_truth(alloc, formula, trace, rules))
+    let checked = find_truth(alloc, &mut sources.formula, &mut sources.trace, rules);
+    send_checked(out, checked)
 }
 
 /// The proof that the job `Trim` sends without the steps outside the core, or the first fault.
@@ -109,70 +108,65 @@ fn run_check<F: Source, T: Source, O: Sink>(
 fn find_trimmed<F: Source, T: Source>(
     alloc: Global,
     rules: Rules,
-    formula: &mut F,
-    trace: &mut T,
+    sources: &mut Sources<F, T>,
 ) -> Result<(CompactTrace, Verified), Fault>
-    ensures trims { IsTrimmed rules (call_of F.Source formula.old formula.new)
-        (call_of T.Source trace.old trace.new) (trimmed_result result) }
-    ensures stops { StopsOnceRead (T.remaining trace.old) (T.remaining trace.new)
+    ensures trims { IsTrimmed rules (call_of F.Source sources.old.formula sources.new.formula)
+        (call_of T.Source sources.old.trace sources.new.trace) (trimmed_result result) }
+    ensures stops { StopsOnceRead (T.remaining sources.old.trace) (T.remaining sources.new.trace)
         (trimmed_result result) }
     ensures within { IfOk result (λ r.
         AllByRecursion (λ i. i < length r.0.steps) r.1.core.items) }
 {
-    find_proof(alloc, formula, trace, rules)
+    find_proof(alloc, &mut sources.formula, &mut sources.trace, rules)
 }
 
 /// Does the job `Format`: sends the canonical text to `out`, or the line for the fault to `err`.
 fn run_format<F: Source, O: Sink, E: Sink>(
     alloc: Global,
     formula: &mut F,
-    out: &mut O,
-    err: &mut E,
+    streams: &mut Streams<O, E>,
 ) -> Status
     ensures { (reading : Result Qbf (FormulaFault × ℕ))
         × IsFormulaRead (call_of F.Source formula.old formula.new) reading
-        × IsReported O.Sink out.old out.new E.Sink err.old err.new
-        (format_report reading) result }
+        × IsReported O.Sink E.Sink streams.old streams.new (format_report reading) result }
 {
     match read_formula(alloc, formula) {
-        Ok(read) => send_formula(out, &read),
-        Err((fault, line)) => send_fault(err, &Fault::Formula(fault, line)),
+        Ok(read) => send_formula(&mut streams.out, &read),
+        Err((fault, line)) => send_fault(&mut streams.err, &Fault::Formula(fault, line)),
     }
 }
 
 /// Does a job: reads the formula and, if the job asks for it, the trace, and writes the report
-/// to `out` or `err`.
+/// to one of the streams.
 ///
 /// If the bytes of the sources are known, the report is the one for what they spell. A source
 /// that fails is reported in a line with status 3, out of memory in a line with status 4, on the
-/// sink that takes the refusals of the job: `out` for `Check`, `err` for the others. The other sink
-/// gets nothing. If the sink of the report fails, in a write or in `finish`, the status is 3 and
-/// a beginning of the text went out. For `Format`, and with a fault of the formula, the trace is
+/// stream that takes the refusals of the job: `out` for `Check`, `err` for the others. The other
+/// stream gets nothing. If the stream of the report fails, in a write or in `finish`, the status is
+/// 3 and a beginning of the text went out. For `Format`, and with a fault of the formula, the trace is
 /// not pulled. Once a trace was read, nothing is read past the separator after its result word but
 /// at most 4,096 bytes.
 pub fn run<F: Source, T: Source, O: Sink, E: Sink>(
     alloc: Global,
     job: Job,
-    formula: &mut F,
-    trace: &mut T,
-    out: &mut O,
-    err: &mut E,
+    sources: &mut Sources<F, T>,
+    streams: &mut Streams<O, E>,
 ) -> Status
     ensures report { (r : Report)
         × IsOutput job
-        (call_of F.Source formula.old formula.new)
-        (call_of T.Source trace.old trace.new) r
-        × IsReported O.Sink out.old out.new E.Sink err.old err.new r result }
+        (call_of F.Source sources.old.formula sources.new.formula)
+        (call_of T.Source sources.old.trace sources.new.trace) r
+        × IsReported O.Sink E.Sink streams.old streams.new r result }
     // The text that `check` prints with status 0 is the line of a verdict for which the headline
     // holds.
     ensures headline { (rules : Rules) (a b : List ℕ) → job ≡ Check rules
-        → F.remaining formula.old ≡ Some a → T.remaining trace.old ≡ Some b → result ≡ 0
-        → PrintsVerdict O.Sink out.old out.new rules a b }
-    ensures not_pulled { job ≡ Format → trace.new ≡ trace.old }
+        → F.remaining sources.old.formula ≡ Some a → T.remaining sources.old.trace ≡ Some b
+        → result ≡ 0 → PrintsVerdict O.Sink streams.old.out streams.new.out rules a b }
+    ensures not_pulled { job ≡ Format → sources.new.trace ≡ sources.old.trace }
 {
     match job {
-        Job::Check(rules) => run_check(alloc, rules, formula, trace, out),
-        Job::Trim(rules) => send_proof(out, err, find_trimmed(alloc, rules, formula, trace)),
-        Job::Format => run_format(alloc, formula, out, err),
+        Job::Check(rules) => run_check(alloc, rules, sources, &mut streams.out),
+        Job::Trim(rules) => send_proof(streams, find_trimmed(alloc, rules, sources)),
+        Job::Format => run_format(alloc, &mut sources.formula, streams),
     }
 }

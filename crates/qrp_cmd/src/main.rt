@@ -13,15 +13,17 @@
 use buffered_sink::Buffered;
 use qbf_text::ToWrite;
 pub use qrp_cli::{Job, request, run};
-use qrp_program::program;
 pub use qrp_program::{Start, Status};
+use qrp_program::{Streams, program};
 use qrp_system::{SystemFiles, given_words};
 use std::process::ExitCode;
 
 fn main(rt: HostRuntime) -> ExitCode {
-    let mut out = Buffered::new(ToWrite::new(rt.stdout()));
-    let mut err = ToWrite::new(rt.stderr());
+    let mut streams = Streams {
+        out: Buffered::new(ToWrite::new(rt.stdout())),
+        err: ToWrite::new(rt.stderr()),
+    };
     let files = SystemFiles::new(&rt);
     let words = given_words(&rt);
-    ExitCode::from(program::<Job, _, _, _>(rt.alloc(), &files, words, &mut out, &mut err))
+    ExitCode::from(program::<Job, _, _, _>(rt.alloc(), &files, words, &mut streams))
 }

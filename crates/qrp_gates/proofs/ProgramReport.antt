@@ -15,6 +15,7 @@ use Rattle.trace_check.specs.declared.fault.CheckFault.TheVariants.{C5}
 use Rattle.qrp_check.specs.declared.verdict.Fault.TheVariants as proof
 use Rattle.qrp_rules.specs.declared.rules.Rules.{Rules}
 use Rattle.qrp_program.specs.Output.{IsOn, IsReported, IsReportedTo}
+use Rattle.qrp_program.specs.declared.stream.Streams.{Streams}
 use Rattle.qrp_report.specs.Lines.{verdict_line}
 use Rattle.qrp_cli.proofs.ProgramReport as cli
 use Rattle.gate_verify.specs.Faults.{IsOutOfMemory, IsQuestionDevice}
@@ -84,39 +85,39 @@ writes_clauses sink old new question a (Ok f) returned made is_a sent zero =
 writes_clauses sink old new question a (Err e) returned made is_a sent zero =
     absurd (is_refused e (cli.sent_whole sink old new (unverified_line e) (unverified_status e) returned sent zero).1)
 
--- a report of clauses that were made goes to the first sink
-pub of_clauses : {O E : Type 0} (o : sinks.Ghosts O) (out out2 : O) (e : sinks.Ghosts E) (errors errors2 : E) (made : Result Qbf Unverified)
-    (returned : ℕ) → IsReported o out out2 e errors errors2 (clauses_report made) returned → returned ≡ 0
-    → IsReportedTo o out out2 (clauses_report made) returned
-of_clauses o out out2 e errors errors2 (Ok f) returned sent zero = sent.0
-of_clauses o out out2 e errors errors2 (Err g) returned sent zero =
-    absurd (is_refused g (cli.sent_whole e errors errors2 (unverified_line g) (unverified_status g) returned sent.0 zero).1)
+-- a report of clauses that were made goes to the first stream
+pub of_clauses : {O E : Type 0} (o : sinks.Ghosts O) (e : sinks.Ghosts E) (old new : Streams O E) (made : Result Qbf Unverified)
+    (returned : ℕ) → IsReported o e old new (clauses_report made) returned → returned ≡ 0
+    → IsReportedTo o old.out new.out (clauses_report made) returned
+of_clauses o e old new (Ok f) returned sent zero = sent.0
+of_clauses o e old new (Err g) returned sent zero =
+    absurd (is_refused g (cli.sent_whole e old.err new.err (unverified_line g) (unverified_status g) returned sent.0 zero).1)
 
 -- the job of a strategy has one pair of rules and format
 pub same_format : (r s : Rules) (a b : Bool) → job.Strategy r a ≡ job.Strategy s b → a ≡ b
 same_format r s a b e = cc e
 
--- a report of a circuit that was made goes to the first sink
-pub of_strategy : {O E : Type 0} (o : sinks.Ghosts O) (out out2 : O) (e : sinks.Ghosts E) (errors errors2 : E) (binary : Bool)
+-- a report of a circuit that was made goes to the first stream
+pub of_strategy : {O E : Type 0} (o : sinks.Ghosts O) (e : sinks.Ghosts E) (old new : Streams O E) (binary : Bool)
     (found : Result (Question × Strategy) GateStrategyFault) (returned : ℕ)
-    → IsReported o out out2 e errors errors2 (strategy_report binary found) returned → returned ≡ 0
-    → (w : Question × Strategy) × (found ≡ Ok w) × Appends (o.written out) (o.written out2) (named_text binary w.0.names w.1.circuit)
-of_strategy o out out2 e errors errors2 binary (Ok w) returned sent zero =
-    (w, refl, (cli.sent_whole o out out2 (named_text binary w.0.names w.1.circuit) 0 returned sent.0 zero).0)
-of_strategy o out out2 e errors errors2 binary (Err (faults.Check g)) returned sent zero =
-    absurd (is_refused g (cli.sent_whole e errors errors2 (unverified_line g) (unverified_status g) returned sent.0 zero).1)
-of_strategy o out out2 e errors errors2 binary (Err faults.NoMemory) returned sent zero =
+    → IsReported o e old new (strategy_report binary found) returned → returned ≡ 0
+    → (w : Question × Strategy) × (found ≡ Ok w) × Appends (o.written old.out) (o.written new.out) (named_text binary w.0.names w.1.circuit)
+of_strategy o e old new binary (Ok w) returned sent zero =
+    (w, refl, (cli.sent_whole o old.out new.out (named_text binary w.0.names w.1.circuit) 0 returned sent.0 zero).0)
+of_strategy o e old new binary (Err (faults.Check g)) returned sent zero =
+    absurd (is_refused g (cli.sent_whole e old.err new.err (unverified_line g) (unverified_status g) returned sent.0 zero).1)
+of_strategy o e old new binary (Err faults.NoMemory) returned sent zero =
     let g : Unverified = fault.Proof (proof.Check C5) in
-    absurd (is_refused g (cli.sent_whole e errors errors2 (unverified_line g) (unverified_status g) returned sent.0 zero).1)
-of_strategy o out out2 e errors errors2 binary (Err faults.NoCircuit) returned sent zero =
-    let four : ◌≡◌ {A = ℕ} 4 0 = (cli.sent_whole e errors errors2 no_circuit.text 4 returned sent.0 zero).1 in absurd (omega (arith, four))
+    absurd (is_refused g (cli.sent_whole e old.err new.err (unverified_line g) (unverified_status g) returned sent.0 zero).1)
+of_strategy o e old new binary (Err faults.NoCircuit) returned sent zero =
+    let four : ◌≡◌ {A = ℕ} 4 0 = (cli.sent_whole e old.err new.err no_circuit.text 4 returned sent.0 zero).1 in absurd (omega (arith, four))
 
 -- with status 0 a strategy writes the text of a circuit by which the winner wins
-pub writes_strategy : {O E : Type 0} (o : sinks.Ghosts O) (out out2 : O) (e : sinks.Ghosts E) (errors errors2 : E) (rules : Rules)
-    (binary : Bool) (question trace : SourceCall) (a b : List ℕ) (found : Result (Question × Strategy) GateStrategyFault) (returned : ℕ)
+pub writes_strategy : {O E : Type 0} (o : sinks.Ghosts O) (e : sinks.Ghosts E) (old new : Streams O E) (rules : Rules) (binary : Bool)
+    (question trace : SourceCall) (a b : List ℕ) (found : Result (Question × Strategy) GateStrategyFault) (returned : ℕ)
     → IsOfVerdict rules question trace found → question.bytes ≡ Some a → trace.bytes ≡ Some b
-    → IsReported o out out2 e errors errors2 (strategy_report binary found) returned → returned ≡ 0 → WritesStrategy o out out2 binary a b
-writes_strategy o out out2 e errors errors2 rules binary question trace a b found returned of is_a is_b sent zero =
-    let w = of_strategy o out out2 e errors errors2 binary found returned sent zero in
+    → IsReported o e old new (strategy_report binary found) returned → returned ≡ 0 → WritesStrategy o old.out new.out binary a b
+writes_strategy o e old new rules binary question trace a b found returned of is_a is_b sent zero =
+    let w = of_strategy o e old new binary found returned sent zero in
     let wins : IfOk found (IsOfWinner a b) = rw is_b at (rw is_a at of.5) in
     (w.0, subst (λ (r : Result (Question × Strategy) GateStrategyFault). IfOk r (IsOfWinner a b)) w.1 wins, w.2)

@@ -14,20 +14,23 @@
 
 mod job;
 mod lines;
+mod program;
 mod running;
 mod words;
 
 use buffered_sink::Buffered;
 use job::Job;
 use qbf_text::ToWrite;
-use qrp_program::program;
+use qrp_program::{Streams, program};
 use qrp_system::{SystemFiles, given_words};
 use std::process::ExitCode;
 
 fn main(rt: HostRuntime) -> ExitCode {
-    let mut out = Buffered::new(ToWrite::new(rt.stdout()));
-    let mut err = ToWrite::new(rt.stderr());
+    let mut streams = Streams {
+        out: Buffered::new(ToWrite::new(rt.stdout())),
+        err: ToWrite::new(rt.stderr()),
+    };
     let files = SystemFiles::new(&rt);
     let words = given_words(&rt);
-    ExitCode::from(program::<Job, _, _, _>(rt.alloc(), &files, words, &mut out, &mut err))
+    ExitCode::from(program::<Job, _, _, _>(rt.alloc(), &files, words, &mut streams))
 }

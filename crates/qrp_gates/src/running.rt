@@ -1,4 +1,4 @@
-//! A job from its sources to its sinks.
+//! A job from its sources to its streams.
 
 ghost use Rattle.std.specs.Prelude.{◌≡◌, List, ℕ, Bool, Some, Result};
 ghost use Rattle.qrp_check.specs.Checked.{call_of};
@@ -28,7 +28,7 @@ use qbf_text::{Sink, Source};
 use qcir::{Question, read_bytes};
 use qrp_check::{CheckFault, Fault, Rules};
 use qrp_cli::{send_formula, send_verdict};
-use qrp_program::{Status, finish_sent};
+use qrp_program::{Sources, Status, Streams, finish_sent};
 use qrp_winner::Strategy;
 use std::alloc::Global;
 
@@ -45,16 +45,14 @@ fn send_checked<O: Sink>(out: &mut O, checked: Result<bool, Unverified>) -> Stat
 
 /// Sends the text of the clauses to `out`, or the line for the first fault to `err`.
 fn send_clauses<O: Sink, E: Sink>(
-    out: &mut O,
-    err: &mut E,
+    streams: &mut Streams<O, E>,
     made: Result<Formula, Unverified>,
 ) -> Status
-    ensures { IsReported O.Sink out.old out.new E.Sink err.old err.new
-        (clauses_report made) result }
+    ensures { IsReported O.Sink E.Sink streams.old streams.new (clauses_report made) result }
 {
     match made {
-        Ok(formula) => send_formula(out, &formula),
-        Err(fault) => send_refusal(err, fault),
+        Ok(formula) => send_formula(&mut streams.out, &formula),
+        Err(fault) => send_refusal(&mut streams.err, fault),
     }
 }
 
@@ -70,14 +68,14 @@ fn send_named<S: Sink>(sink: &mut S, binary: bool, question: &Question, circuit:
 
 /// Sends the circuit to `out`, or the line for the refusal to `err`.
 fn send_strategy<O: Sink, E: Sink>(
-    out: &mut O,
-    err: &mut E,
+    streams: &mut Streams<O, E>,
     binary: bool,
     found: Result<(Question, Strategy), GateStrategyFault>,
 ) -> Status
-    ensures { IsReported O.Sink out.old out.new E.Sink err.old err.new
+    ensures { IsReported O.Sink E.Sink streams.old streams.new
         (strategy_report binary found.entry) result }
 {
+    let Streams { out, err } = streams;
     match found {
         Ok((question, strategy)) => send_named(out, binary, &question, &strategy.circuit),
         Err(GateStrategyFault::Check(fault)) => send_refusal(err, fault),
@@ -93,71 +91,69 @@ fn send_strategy<O: Sink, E: Sink>(
 fn run_strategy<F: Source, T: Source, O: Sink, E: Sink>(
     alloc: Global,
     wanted: (Rules, bool),
-    formula: &mut F,
-    trace: &mut T,
-    out: &mut O,
-    err: &mut E,
+    sources: &mut Sources<F, T>,
+    streams: &mut Streams<O, E>,
 ) -> Status
     ensures { (found : Result (Question × Strategy) GateStrategyFault)
-        × IsOfVerdict wanted.0 (call_of F.Source formula.old formula.new)
-        (call_of T.Source trace.old trace.new) found
-        × IsReported O.Sink out.old out.new E.Sink err.old err.new
+        × IsOfVerdict wanted.0 (call_of F.Source sources.old.formula sources.new.formula)
+        (call_of T.Source sources.old.trace sources.new.trace) found
+        × IsReported O.Sink E.Sink streams.old streams.new
         (strategy_report wanted.1 found) result }
 {
     let (rules, binary) = wanted;
-    match read_bytes(alloc, formula) {
+    match read_bytes(alloc, &mut sources.formula) {
         Ok(text) => {
-            let found = find_gate_strategy(alloc, &text, trace, rules);
-            send_strategy(out, err, binary, found)
+            let found = find_gate_strategy(alloc, &text, &mut sources.trace, rules);
+            send_strategy(streams, binary, found)
         }
-        Err(fault) => send_refusal(err, Unverified::Question(fault, 0)),
+        Err(fault) => send_refusal(&mut streams.err, Unverified::Question(fault, 0)),
     }
 }
 
 /// Does a job: reads the formula of gates and, if the job asks for it, the trace, and writes the
-/// report to `out` or `err`.
+/// report to one of the streams.
 ///
 /// If the bytes of the sources are known, the report is the one for what they spell. A source
 /// that fails is reported in a line with status 3, out of memory in a line with status 4, on the
-/// sink that takes the refusals of the job: `out` for `Check`, `err` for the others. The other sink
-/// gets nothing. If the sink of the report fails, in a write or in `finish`, the status is 3 and
-/// a beginning of the text went out. For `Clauses`, and unless the clauses are made, the trace is
+/// stream that takes the refusals of the job: `out` for `Check`, `err` for the others. The other
+/// stream gets nothing. If the stream of the report fails, in a write or in `finish`, the status is
+/// 3 and a beginning of the text went out. For `Clauses`, and unless the clauses are made, the trace is
 /// not pulled. Once a trace was read, nothing is read past the separator after its result word but
 /// at most 4,096 bytes.
 pub fn run<F: Source, T: Source, O: Sink, E: Sink>(
     alloc: Global,
     job: Job,
-    formula: &mut F,
-    trace: &mut T,
-    out: &mut O,
-    err: &mut E,
+    sources: &mut Sources<F, T>,
+    streams: &mut Streams<O, E>,
 ) -> Status
     ensures report { (r : Report)
         × IsOutput job
-        (call_of F.Source formula.old formula.new)
-        (call_of T.Source trace.old trace.new) r
-        × IsReported O.Sink out.old out.new E.Sink err.old err.new r result }
+        (call_of F.Source sources.old.formula sources.new.formula)
+        (call_of T.Source sources.old.trace sources.new.trace) r
+        × IsReported O.Sink E.Sink streams.old streams.new r result }
     // The text that `check` prints with status 0 is the line of a verdict for which the headline
     // holds.
     ensures headline { (rules : Rules) (a b : List ℕ) → job ≡ Check rules
-        → F.remaining formula.old ≡ Some a → T.remaining trace.old ≡ Some b → result ≡ 0
-        → PrintsVerdict O.Sink out.old out.new rules a b }
+        → F.remaining sources.old.formula ≡ Some a → T.remaining sources.old.trace ≡ Some b
+        → result ≡ 0 → PrintsVerdict O.Sink streams.old.out streams.new.out rules a b }
     // The text that `clauses` prints with status 0 is that of the clauses of the formula of gates
     // that the bytes spell.
-    ensures clauses { (a : List ℕ) → job ≡ Clauses → F.remaining formula.old ≡ Some a
-        → result ≡ 0 → WritesClauses O.Sink out.old out.new a }
+    ensures clauses { (a : List ℕ) → job ≡ Clauses → F.remaining sources.old.formula ≡ Some a
+        → result ≡ 0 → WritesClauses O.Sink streams.old.out streams.new.out a }
     // The text that `strategy` prints with status 0 is that of a circuit by which the winner of the
     // formula of gates wins, with the names that the bytes give to its variables.
     ensures strategy { (rules : Rules) (binary : Bool) (a b : List ℕ) → job ≡ jobs.Strategy rules binary
-        → F.remaining formula.old ≡ Some a → T.remaining trace.old ≡ Some b → result ≡ 0
-        → WritesStrategy O.Sink out.old out.new binary a b }
-    ensures not_pulled { job ≡ Clauses → trace.new ≡ trace.old }
+        → F.remaining sources.old.formula ≡ Some a → T.remaining sources.old.trace ≡ Some b
+        → result ≡ 0 → WritesStrategy O.Sink streams.old.out streams.new.out binary a b }
+    ensures not_pulled { job ≡ Clauses → sources.new.trace ≡ sources.old.trace }
 {
     match job {
-        Job::Clauses => send_clauses(out, err, read_in_clauses(alloc, formula)),
-        Job::Strategy(rules, binary) => {
-            run_strategy(alloc, (rules, binary), formula, trace, out, err)
+        Job::Clauses => send_clauses(streams, read_in_clauses(alloc, &mut sources.formula)),
+        Job::Strategy(rules, binary) => run_strategy(alloc, (rules, binary), sources, streams),
+        Job::Check(rules) => {
+            let Sources { formula, trace } = sources;
+            let checked = verify_question(alloc, formula, trace, rules);
+            send_checked(&mut streams.out, checked)
         }
-        Job::Check(rules) => send_checked(out, verify_question(alloc, formula, trace, rules)),
     }
 }

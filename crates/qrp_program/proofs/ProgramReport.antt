@@ -7,6 +7,7 @@ use Rattle.qrp_program.specs.Output.{Report}
 use Rattle.qrp_program.specs.Program.{start_report, word, IsOnBoth, IsOnFormula, IsOnFiles, IsOnOpened, IsProgram, Opens, no_trace}
 use Rattle.qrp_program.specs.Words.{Request}
 use Rattle.qrp_program.specs.declared.jobs.Jobs as jobs
+use Rattle.qrp_program.specs.declared.sources.Sources.{Sources}
 use Rattle.qrp_program.specs.declared.start.Start.{Start}
 
 -- the word at a place, as it stands in a list of texts
@@ -42,21 +43,21 @@ module _ {J A F : Type 0} (program : jobs.Ghosts J) (files : source.Ghosts F) (o
 
 -- the report on what was opened is the one on the files
 pub on_files : {J F : Type 0} (program : jobs.Ghosts J) (files : source.Ghosts F) (opens : Opens) (first second : List ℕ) (j : J)
-    (opened left : Result (F × F) Start) (r : Report)
-    → IfOk opened (λ f. (r : Report) → IsOnBoth program files files j f.0 f.1 r → IsOnFiles program files opens j first (Some second) r)
+    (opened left : Result (Sources F F) Start) (r : Report)
+    → IfOk opened (λ f. (r : Report) → IsOnBoth program files files j f.formula f.trace r → IsOnFiles program files opens j first (Some second) r)
     → IfErr opened (λ start. IsOnFiles program files opens j first (Some second) (start_report (program.refusals j) start))
     → IsOnOpened program files files j opened left r → IsOnFiles program files opens j first (Some second) r
-on_files program files opens first second j (Ok f) (Ok g) r ok err on = ok r (g.0, g.1, on)
+on_files program files opens first second j (Ok f) (Ok g) r ok err on = ok r (g.formula, g.trace, on)
 on_files program files opens first second j (Ok f) (Err start) r ok err on = absurd on
 on_files program files opens first second j (Err start) left r ok err on = rw on err
 
 -- the same of a job that asks for no trace
 pub on_formula : {J F : Type 0} (program : jobs.Ghosts J) (files : source.Ghosts F) (opens : Opens) (first : List ℕ) (j : J)
-    (opened left : Result (F × List ℕ) Start) (r : Report)
-    → IfOk opened (λ f. (r : Report) → IsOnFormula program files j f.0 r → IsOnFiles program files opens j first None r)
-    → IfOk opened (λ f. f.1 ≡ [])
+    (opened left : Result (Sources F (List ℕ)) Start) (r : Report)
+    → IfOk opened (λ f. (r : Report) → IsOnFormula program files j f.formula r → IsOnFiles program files opens j first None r)
+    → IfOk opened (λ f. f.trace ≡ [])
     → IfErr opened (λ start. IsOnFiles program files opens j first None (start_report (program.refusals j) start))
     → IsOnOpened program files no_trace j opened left r → IsOnFiles program files opens j first None r
-on_formula program files opens first j (Ok (f, rest)) (Ok (g, left)) r ok none err on = ok r (g, left, rw none at on)
+on_formula program files opens first j (Ok f) (Ok g) r ok none err on = ok r (g.formula, g.trace, rw none at on)
 on_formula program files opens first j (Ok f) (Err start) r ok none err on = absurd on
 on_formula program files opens first j (Err start) left r ok none err on = rw on err

@@ -6,6 +6,7 @@ use Rattle.qbf_text.specs.Written.{AppendsFront}
 use Rattle.qrp_check.specs.declared.verdict.Fault.{Fault}
 use Rattle.qrp_program.specs.declared.stream.Stream.{Stream}
 use Rattle.qrp_program.specs.declared.stream.Stream.TheVariants.{Out, Errors}
+use Rattle.qrp_program.specs.declared.stream.Streams.{Streams}
 use Rattle.qrp_report.specs.Lines.{fault_line}
 use Rattle.qrp_report.specs.Refusals.{fault_status}
 use Rattle.qrp_report.specs.Results.{DeviceFailed}
@@ -43,8 +44,8 @@ abbrev pub IsOn : Stream → Type 0 → Type 0 → Type 0
 IsOn Out on_out on_errors = on_out
 IsOn Errors on_out on_errors = on_errors
 
--- The report went out to its sink and the status is returned; the other sink, of the two that went from `out` to `out2` and from
--- `errors` to `errors2`, is as it was.
-abbrev pub IsReported : {O E : Type 0} → Ghosts O → O → O → Ghosts E → E → E → Report → ℕ → Type 0
-IsReported o out out2 e errors errors2 r returned =
-    IsOn r.stream (IsReportedTo o out out2 r returned × (errors2 ≡ errors)) (IsReportedTo e errors errors2 r returned × (out2 ≡ out))
+-- The report went out to its stream and the status is returned; the other one of the two streams, which went from `old` to `new`, is as it
+-- was.
+abbrev pub IsReported : {O E : Type 0} → Ghosts O → Ghosts E → Streams O E → Streams O E → Report → ℕ → Type 0
+IsReported o e old new r returned =
+    IsOn r.stream (IsReportedTo o old.out new.out r returned × (new.err ≡ old.err)) (IsReportedTo e old.err new.err r returned × (new.out ≡ old.out))

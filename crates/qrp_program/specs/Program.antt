@@ -8,6 +8,7 @@ use Rattle.qrp_program.specs.Words.{Request}
 use Rattle.qrp_program.specs.declared.jobs.Jobs as jobs
 use Rattle.qrp_program.specs.declared.open_fault.OpenFault.{OpenFault}
 use Rattle.qrp_program.specs.declared.open_fault.OpenFault.TheVariants.{NoFile, NoMemory}
+use Rattle.qrp_program.specs.declared.sources.Sources.{Sources}
 use Rattle.qrp_program.specs.declared.start.Start.{Start}
 use Rattle.qrp_program.specs.declared.start.Start.TheVariants as start
 use Rattle.qrp_program.specs.declared.stream.Stream.{Stream}
@@ -49,9 +50,9 @@ IsOnBoth {F = F} {T = T} program formula trace j f t r =
     (f2 : F) × (t2 : T) × program.is_output j (call_of formula f f2) (call_of trace t t2) r
 
 -- The report of a job on an opened formula and an opened trace, each as it was before and as it is left, or on why they are not opened.
-abbrev pub IsOnOpened : {J F T : Type 0} → jobs.Ghosts J → source.Ghosts F → source.Ghosts T → J → Result (F × T) Start → Result (F × T) Start
-    → Report → Type 0
-IsOnOpened program formula trace j (Ok f) (Ok g) r = program.is_output j (call_of formula f.0 g.0) (call_of trace f.1 g.1) r
+abbrev pub IsOnOpened : {J F T : Type 0} → jobs.Ghosts J → source.Ghosts F → source.Ghosts T → J → Result (Sources F T) Start
+    → Result (Sources F T) Start → Report → Type 0
+IsOnOpened program formula trace j (Ok f) (Ok g) r = program.is_output j (call_of formula f.formula g.formula) (call_of trace f.trace g.trace) r
 IsOnOpened program formula trace j (Ok f) (Err start) r = ⊥
 IsOnOpened program formula trace j (Err start) left r = r ≡ start_report (program.refusals j) start
 

@@ -12,8 +12,9 @@ ghost use Rattle.qrp_program.specs.declared.stream.Stream.TheVariants.{Errors};
 use crate::jobs::Jobs;
 use crate::open::Open;
 use crate::sending::Status;
+use crate::sources::Sources;
 use crate::start::Start;
-use crate::stream::Stream;
+use crate::stream::{Stream, Streams};
 use qbf_text::{Sink, SliceSource, Source, put_bytes};
 use std::alloc::Global;
 
@@ -29,13 +30,12 @@ fn stop<S: Sink>(sink: &mut S, start: Start) -> Status
 }
 
 /// Ends before a job begins. The line goes to this one of the streams.
-fn refuse<O: Sink, E: Sink>(stream: Stream, start: Start, out: &mut O, err: &mut E) -> Status
-    ensures { IsReported O.Sink out.old out.new E.Sink err.old err.new
-        (start_report stream start) result }
+fn refuse<O: Sink, E: Sink>(stream: Stream, start: Start, streams: &mut Streams<O, E>) -> Status
+    ensures { IsReported O.Sink E.Sink streams.old streams.new (start_report stream start) result }
 {
     match stream {
-        Stream::Out => stop(out, start),
-        Stream::Errors => stop(err, start),
+        Stream::Out => stop(&mut streams.out, start),
+        Stream::Errors => stop(&mut streams.err, start),
     }
 }
 
@@ -64,9 +64,9 @@ fn open_both<J: Jobs, F: Open>(
     files: &F,
     formula: &str,
     trace: &str,
-) -> Result<(F::File, F::File), Start>
+) -> Result<Sources<F::File, F::File>, Start>
     ensures opened { IfOk result (λ f. (r : Report)
-        → IsOnBoth J.Jobs F.File.Source F.File.Source job f.0 f.1 r
+        → IsOnBoth J.Jobs F.File.Source F.File.Source job f.formula f.trace r
         → IsOnFiles J.Jobs F.File.Source (F.opens files.now) job formula.now (Some trace.now) r) }
     ensures refused { IfErr result (λ start.
         IsOnFiles J.Jobs F.File.Source (F.opens files.now) job formula.now (Some trace.now)
@@ -74,7 +74,7 @@ fn open_both<J: Jobs, F: Open>(
 {
     let formula = open_file(files, formula, Start::NoFormula)?;
     let trace = open_file(files, trace, Start::NoTrace)?;
-    Ok((formula, trace))
+    Ok(Sources { formula, trace })
 }
 
 /// Opens the file of a formula, for a job that has no trace.
@@ -85,45 +85,39 @@ fn open_formula<'a, J: Jobs, F: Open>(
     job: J,
     files: &F,
     path: &str,
-) -> Result<(F::File, SliceSource<'a>), Start>
+) -> Result<Sources<F::File, SliceSource<'a>>, Start>
     ensures opened { IfOk result (λ f. (r : Report)
-        → IsOnFormula J.Jobs F.File.Source job f.0 r
+        → IsOnFormula J.Jobs F.File.Source job f.formula r
         → IsOnFiles J.Jobs F.File.Source (F.opens files.now) job path.now None r) }
-    ensures no_trace { IfOk result (λ f. f.1 ≡ []) }
+    ensures no_trace { IfOk result (λ f. f.trace ≡ []) }
     ensures refused { IfErr result (λ start.
         IsOnFiles J.Jobs F.File.Source (F.opens files.now) job path.now None
         (start_report (J.refusals job) start)) }
 {
-    let file = open_file(files, path, Start::NoFormula)?;
-    Ok((file, SliceSource::new(&[])))
-}
-
-/// A job, and where it takes its memory from.
-#[derive(Clone, Copy)]
-struct Task<J> {
-    alloc: Global,
-    job: J,
+    let formula = open_file(files, path, Start::NoFormula)?;
+    let trace = SliceSource::new(&[]);
+    Ok(Sources { formula, trace })
 }
 
 /// Does a job on the opened files, or reports why they are not opened.
 fn run_opened<J: Jobs, F: Source, T: Source, O: Sink, E: Sink>(
-    task: Task<J>,
-    opened: &mut Result<(F, T), Start>,
-    out: &mut O,
-    err: &mut E,
+    alloc: Global,
+    job: J,
+    opened: &mut Result<Sources<F, T>, Start>,
+    streams: &mut Streams<O, E>,
 ) -> Status
     ensures { (r : Report)
-        × IsOnOpened J.Jobs F.Source T.Source task.job opened.old opened.new r
-        × IsReported O.Sink out.old out.new E.Sink err.old err.new r result }
+        × IsOnOpened J.Jobs F.Source T.Source job opened.old opened.new r
+        × IsReported O.Sink E.Sink streams.old streams.new r result }
 {
     match opened {
-        Ok((formula, trace)) => task.job.run(task.alloc, formula, trace, out, err),
-        Err(start) => refuse(task.job.refused_on(), *start, out, err),
+        Ok(sources) => job.run(alloc, sources, streams),
+        Err(start) => refuse(job.refused_on(), *start, streams),
     }
 }
 
-/// A whole program, but for where its arguments, its files and its sinks come from: does what the
-/// arguments ask for, over the files that they name, writes the report to `out` or `err`, and
+/// A whole program, but for where its arguments, its files and its streams come from: does what the
+/// arguments ask for, over the files that they name, writes the report to one of the streams, and
 /// returns the status.
 ///
 /// If the arguments are not a command line of the usage, the line `USAGE` goes to `err` with status
@@ -136,32 +130,31 @@ pub fn program<J: Jobs, F: Open, O: Sink, E: Sink>(
     alloc: Global,
     files: &F,
     words: Result<Vec<String>, Start>,
-    out: &mut O,
-    err: &mut E,
+    streams: &mut Streams<O, E>,
 ) -> Status
     ensures words { IfOk words (λ words. (r : Report)
         × IsProgram J.Jobs F.File.Source (F.opens files.now) (map (λ w. string_bytes w) words.items) r
-        × IsReported O.Sink out.old out.new E.Sink err.old err.new r result) }
-    ensures no_words { IfErr words (λ start. IsReported O.Sink out.old out.new E.Sink err.old
-        err.new (start_report Errors start) result) }
+        × IsReported O.Sink E.Sink streams.old streams.new r result) }
+    ensures no_words { IfErr words (λ start. IsReported O.Sink E.Sink streams.old streams.new
+        (start_report Errors start) result) }
 {
     let words = match words {
         Ok(words) => words,
-        Err(start) => return stop(err, start),
+        Err(start) => return stop(&mut streams.err, start),
     };
     let texts = words.as_slice();
     let Some((job, formula, trace)) = J::request(texts) else {
-        return stop(err, Start::Usage);
+        return stop(&mut streams.err, Start::Usage);
     };
     let formula = texts[formula].as_str();
     match trace {
         Some(trace) => {
             let mut opened = open_both(job, files, formula, texts[trace].as_str());
-            run_opened(Task { alloc, job }, &mut opened, out, err)
+            run_opened(alloc, job, &mut opened, streams)
         }
         None => {
             let mut opened = open_formula(job, files, formula);
-            run_opened(Task { alloc, job }, &mut opened, out, err)
+            run_opened(alloc, job, &mut opened, streams)
         }
     }
 }

@@ -8,7 +8,8 @@ ghost use Rattle.qrp_program.specs.Words.{Request};
 ghost use Rattle.qrp_program.specs.declared.stream.Stream.{Stream};
 
 use crate::sending::Status;
-use crate::stream::Stream;
+use crate::sources::Sources;
+use crate::stream::{Stream, Streams};
 use qbf_text::{Sink, Source};
 use std::alloc::Global;
 
@@ -46,18 +47,16 @@ pub trait Jobs: Copy {
     fn refused_on(self) -> Stream
         ensures { result ≡ refusals self };
 
-    /// Does this job on a formula and a trace, and writes its report to `out` or `err`. The other
-    /// sink gets nothing.
+    /// Does this job on a formula and a trace, and writes its report to one of the streams. The
+    /// other one gets nothing.
     fn run<F: Source, T: Source, O: Sink, E: Sink>(
         self,
         alloc: Global,
-        formula: &mut F,
-        trace: &mut T,
-        out: &mut O,
-        err: &mut E,
+        sources: &mut Sources<F, T>,
+        streams: &mut Streams<O, E>,
     ) -> Status
         ensures { (r : Report)
-            × is_output self (call_of F.Source formula.old formula.new)
-            (call_of T.Source trace.old trace.new) r
-            × IsReported O.Sink out.old out.new E.Sink err.old err.new r result };
+            × is_output self (call_of F.Source sources.old.formula sources.new.formula)
+            (call_of T.Source sources.old.trace sources.new.trace) r
+            × IsReported O.Sink E.Sink streams.old streams.new r result };
 }

@@ -8,3 +8,12 @@ pub enum Stream {
     /// The one for errors.
     Errors,
 }
+
+/// The two streams of a program.
+#[derive(Drop)]
+pub struct Streams<O, E> {
+    /// The one for what was asked for.
+    pub out: O,
+    /// The one for errors.
+    pub err: E,
+}

@@ -10,21 +10,24 @@
 //! - On the map: the program qrp_strategy.
 #![tactic(auto)]
 
+mod program;
 mod running;
 mod task;
 mod words;
 
 use buffered_sink::Buffered;
 use qbf_text::ToWrite;
-use qrp_program::program;
+use qrp_program::{Streams, program};
 use qrp_system::{SystemFiles, given_words};
 use std::process::ExitCode;
 use task::Task;
 
 fn main(rt: HostRuntime) -> ExitCode {
-    let mut out = Buffered::new(ToWrite::new(rt.stdout()));
-    let mut err = ToWrite::new(rt.stderr());
+    let mut streams = Streams {
+        out: Buffered::new(ToWrite::new(rt.stdout())),
+        err: ToWrite::new(rt.stderr()),
+    };
     let files = SystemFiles::new(&rt);
     let words = given_words(&rt);
-    ExitCode::from(program::<Task, _, _, _>(rt.alloc(), &files, words, &mut out, &mut err))
+    ExitCode::from(program::<Task, _, _, _>(rt.alloc(), &files, words, &mut streams))
 }

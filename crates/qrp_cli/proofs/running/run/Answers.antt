@@ -19,5 +19,5 @@ returns-in-Trim-clause-report g c =
 
 pub returns-in-Check-clause-headline : goal.returns-in-Check-clause-headline
 returns-in-Check-clause-headline g c = λ rules a b is is_a is_b zero.
-    subst (λ (r : Rules). PrintsVerdict g.O.Sink c.args.out.now c.run_check.new.out r a b) (same_rules c.in-Check.rules rules (sym c.in-Check.is ∙ is))
+    subst (λ (r : Rules). PrintsVerdict g.O.Sink c.args.streams.now.out c.run_check.new.out r a b) (same_rules c.in-Check.rules rules (sym c.in-Check.is ∙ is))
     (c.run_check.ensures.headline a b is_a is_b zero)

@@ -9,8 +9,8 @@ use Rattle.qrp_gates.proofs.running.run_strategy.Goals as goal
 
 pub returns-in-Ok : goal.returns-in-Ok
 returns-in-Ok g c =
-    let question = call_of g.F.Source c.args.formula.now c.read_bytes.new.source in
-    let trace = call_of g.T.Source c.args.trace.now c.find_gate_strategy-found.new.trace in
+    let question = call_of g.F.Source c.args.sources.now.formula c.read_bytes.new.source in
+    let trace = call_of g.T.Source c.args.sources.now.trace c.find_gate_strategy-found.new.trace in
     let found = c.find_gate_strategy-found.result in
     let gave : IfSome question.bytes (λ bytes. c.deref.result.now ≡ bytes) =
     subst (λ (t : List ℕ). IfSome question.bytes (λ bytes. t ≡ bytes)) (sym c.deref.ensures.value) c.in-Ok.ensures.bytes in (
@@ -21,8 +21,8 @@ returns-in-Ok g c =
 
 pub returns-in-Err : goal.returns-in-Err
 returns-in-Err g c =
-    let question = call_of g.F.Source c.args.formula.now c.read_bytes.new.source in
-    let trace = call_of g.T.Source c.args.trace.now c.args.trace.now in
+    let question = call_of g.F.Source c.args.sources.now.formula c.read_bytes.new.source in
+    let trace = call_of g.T.Source c.args.sources.now.trace c.args.sources.now.trace in
     let e : Unverified = fault.Question c.in-Err.fault 0 in (
       Err (Check e),
       refused c.args.wanted.0 question trace e
