@@ -10,10 +10,12 @@ ghost use Rattle.qrp_rules.specs.declared.rules.Rules.{Rules};
 ghost use Rattle.proof_decisions.specs.ProofDecisions.{AreAllThatSet};
 ghost use Rattle.proof_decisions.specs.Removing.{AddsDecision, AddsUnlessIdle};
 
+use crate::checked_proof::CheckedProof;
+use crate::literal_sets::set_all;
 use crate::origins::{OriginBuffers, Search, origin_of};
-use crate::removing::{keep, remove_all, set_all};
+use crate::removing::{keep, remove_all};
 use lists::GrowingLists;
-use qbf_core::{Formula, LitBuffer};
+use qbf_core::LitBuffer;
 use qbf_strategy::Decisions;
 use qrp_rules::{Clauses, Cubes, Side, reducible_in};
 use std::alloc::{AllocError, Global};
@@ -45,27 +47,22 @@ fn close_unless_idle(decisions: &mut Decisions) -> Result<(), AllocError>
 
 /// Adds the decision of the step at a position, unless it sets nothing.
 fn decide<S: Side, T: KeptSteps>(
-    formula: &Formula,
-    trace: &T,
+    proof: CheckedProof<'_, T>,
     position: usize,
     walk: &mut Walk,
 ) -> Result<(), AllocError>
-    requires derives { (by : Rules) × Derives by S.side formula.now (T.steps trace.now) }
-    requires core { IsInCore (T.steps trace.now) position }
-    ensures { OnOk result (AddsDecision S.side formula.now (T.steps trace.now) position
+    requires derives { (by : Rules) × Derives by S.side proof.formula.now (T.steps proof.trace.now) }
+    requires core { IsInCore (T.steps proof.trace.now) position }
+    ensures { OnOk result (AddsDecision S.side proof.entry.formula.now
+        (T.steps proof.entry.trace.now) position
         walk.old.decisions.kept.whole walk.old.decisions.removed.whole
         walk.new.decisions.kept.whole walk.new.decisions.removed.whole) }
 {
+    let CheckedProof { formula, trace } = proof;
     let lits = trace.unpacked(position, &mut walk.own)?;
     let own = reducible_in(formula.prefix(), S::REDUCED, lits);
     keep(own, lits, &mut walk.decisions.kept)?;
-    let origin = origin_of::<S, T>(
-        formula,
-        trace,
-        position,
-        &mut walk.search,
-        &mut walk.buffers,
-    )?;
+    let origin = origin_of::<S, T>(proof, position, &mut walk.search, &mut walk.buffers)?;
     set_all(&mut walk.search.seen, walk.decisions.kept.unfinished())?;
     walk.decisions.removed.begin();
     remove_all::<S>(
@@ -89,13 +86,13 @@ fn place_at(core: &[usize], i: usize) -> usize
 #[tactic(auto, using(crate::proofs::MadeDecisions::decisions_none))]
 fn decisions_for<S: Side, T: KeptSteps>(
     alloc: Global,
-    formula: &Formula,
-    trace: &T,
+    proof: CheckedProof<'_, T>,
     core: &[usize],
 ) -> Result<Decisions, AllocError>
-    requires derives { (by : Rules) × Derives by S.side formula.now (T.steps trace.now) }
-    requires core { (i : ℕ) → i ∈ core.now → IsInCore (T.steps trace.now) i }
-    ensures are { IfOk result (λ d. AreAllThatSet S.side formula.now (T.steps trace.now) core.now
+    requires derives { (by : Rules) × Derives by S.side proof.formula.now (T.steps proof.trace.now) }
+    requires core { (i : ℕ) → i ∈ core.now → IsInCore (T.steps proof.trace.now) i }
+    ensures are { IfOk result (λ d. AreAllThatSet S.side proof.entry.formula.now
+        (T.steps proof.entry.trace.now) core.now
         (decisions_by (reduced_quantifier S.side) d.kept.whole d.removed.whole)) }
     ensures same { IfOk result (λ d. length d.kept.whole ≡ length d.removed.whole) }
 {
@@ -111,10 +108,10 @@ fn decisions_for<S: Side, T: KeptSteps>(
             removed: GrowingLists::new(alloc),
         },
     };
-    walk.search.seen.make_room(formula.prefix())?;
+    walk.search.seen.make_room(proof.formula.prefix())?;
     for i in 0..core.len() {
         let position = place_at(core, i);
-        decide::<S, T>(formula, trace, position, &mut walk)?;
+        decide::<S, T>(proof, position, &mut walk)?;
     }
     Ok(walk.decisions)
 }
@@ -126,20 +123,20 @@ fn decisions_for<S: Side, T: KeptSteps>(
 /// If an allocation fails.
 pub fn decisions_of<T: KeptSteps>(
     alloc: Global,
-    formula: &Formula,
-    trace: &T,
+    proof: CheckedProof<'_, T>,
     outcome: Outcome,
     core: &[usize],
 ) -> Result<Decisions, AllocError>
-    requires derives { (by : Rules) × Derives by (side_of outcome) formula.now (T.steps trace.now) }
-    requires core { ListsCore (T.steps trace.now) core.now }
-    ensures are { IfOk result (λ d. AreAllThatSet (side_of outcome) formula.now (T.steps trace.now)
-        core.now
+    requires derives { (by : Rules)
+        × Derives by (side_of outcome) proof.formula.now (T.steps proof.trace.now) }
+    requires core { ListsCore (T.steps proof.trace.now) core.now }
+    ensures are { IfOk result (λ d. AreAllThatSet (side_of outcome) proof.entry.formula.now
+        (T.steps proof.entry.trace.now) core.now
         (decisions_by (reduced_quantifier (side_of outcome)) d.kept.whole d.removed.whole)) }
     ensures same { IfOk result (λ d. length d.kept.whole ≡ length d.removed.whole) }
 {
     match outcome {
-        Outcome::Unsat => decisions_for::<Clauses, T>(alloc, formula, trace, core),
-        Outcome::Sat => decisions_for::<Cubes, T>(alloc, formula, trace, core),
+        Outcome::Unsat => decisions_for::<Clauses, T>(alloc, proof, core),
+        Outcome::Sat => decisions_for::<Cubes, T>(alloc, proof, core),
     }
 }

@@ -13,7 +13,8 @@ ghost use Rattle.written_steps.specs.Seen.{Has};
 ghost use Rattle.qrp_rules.specs.declared.rules.Rules.{Rules};
 ghost use Rattle.proof_decisions.specs.Removing.{ComesFrom, IsClauseOf, IsInitialOf, IsPivotOf};
 
-use crate::removing::set_all;
+use crate::checked_proof::CheckedProof;
+use crate::literal_sets::set_all;
 use qbf_core::{Formula, Lit, LitBuffer, Quantifier};
 use qrp_rules::Side;
 use std::alloc::{AllocError, Global};
@@ -128,18 +129,20 @@ fn initial_of<'a, S: Side>(
 
 /// What the step at a position comes from.
 pub(crate) fn origin_of<'a, S: Side, T: KeptSteps>(
-    formula: &'a Formula,
-    trace: &'a T,
+    proof: CheckedProof<'a, T>,
     position: usize,
     search: &mut Search,
     buffers: &'a mut OriginBuffers,
 ) -> Result<Origin<'a>, AllocError>
-    requires position { position < length (T.steps trace.now) }
-    requires follows { (by : Rules) × StepFollows by S.side formula.now (T.steps trace.now) position }
-    ensures { IfOk result (λ origin. (step : Inference) → IsAt (T.steps trace.now) position step
-        → ComesFrom S.side formula.now (take position (T.steps trace.now)) step.ants step.lits
-        origin) }
+    requires position { position < length (T.steps proof.trace.now) }
+    requires follows { (by : Rules)
+        × StepFollows by S.side proof.formula.now (T.steps proof.trace.now) position }
+    ensures { IfOk result (λ origin. (step : Inference)
+        → IsAt (T.steps proof.entry.trace.now) position step
+        → ComesFrom S.side proof.entry.formula.now (take position (T.steps proof.entry.trace.now))
+        step.ants step.lits origin) }
 {
+    let CheckedProof { formula, trace } = proof;
     match trace.antecedents(position) {
         Antecedents::Empty => {
             let lits = trace.unpacked(position, &mut buffers.first)?;

@@ -1,12 +1,12 @@
 //! The literals that a step keeps, and those that are removed of the lists that it comes from.
 
-ghost use Rattle.std.specs.Prelude.{◌≡◌, ◌↔◌, ◌≤◌, ◌+◌, [], ◌∷◌, ◌⊎◌, OnOk, length};
+ghost use Rattle.std.specs.Prelude.{◌≡◌, ◌≤◌, ◌+◌, [], ◌∷◌, ◌⊎◌, OnOk, length};
 ghost use Rattle.qbf_core.specs.Literal.{Literal};
 ghost use Rattle.qbf_core.specs.Members.{◌∈◌, ◌⊆◌};
-ghost use Rattle.written_steps.specs.Seen.{Has};
 ghost use Rattle.qrp_rules.specs.Walks.{MayOmit, TakesOut};
-ghost use Rattle.proof_decisions.specs.Removing.{HasJust, IsLeft, MayLeave, Removes, RemovesAll};
+ghost use Rattle.proof_decisions.specs.Removing.{IsLeft, MayLeave, Removes, RemovesAll};
 
+use crate::literal_sets::put;
 use crate::origins::Origin;
 use lists::GrowingLists;
 use qbf_core::{Lit, Prefix};
@@ -43,25 +43,6 @@ pub(crate) fn keep(
     kept.begin();
     for lit in lits {
         put_kept(own, *lit, kept)?;
-    }
-    Ok(())
-}
-
-/// Puts a literal into a set.
-#[tactic(auto, using(crate::proofs::RemovedLiterals::put_in))]
-fn put(seen: &mut SeenLits, lit: Lit) -> Result<(), AllocError>
-    ensures { OnOk result ((l : Literal) → Has seen.new l ↔ (Has seen.old l ⊎ (l ≡ lit))) }
-{
-    seen.put(lit)
-}
-
-/// Makes a set that of the literals of a list.
-pub(crate) fn set_all(seen: &mut SeenLits, lits: &[Lit]) -> Result<(), AllocError>
-    ensures { OnOk result (HasJust lits.now seen.new) }
-{
-    seen.clear();
-    for lit in lits {
-        put(seen, *lit)?;
     }
     Ok(())
 }

@@ -17,5 +17,7 @@ mod fault;
 mod strategy;
 
 pub use fault::StrategyFault;
-pub use proof_decisions::{circuits_win, decisions_of, decisions_see_before, decisions_win};
+pub use proof_decisions::{
+    CheckedProof, circuits_win, decisions_of, decisions_see_before, decisions_win,
+};
 pub use strategy::{Strategy, find_strategy, strategy_of};

@@ -15,7 +15,7 @@ ghost use Rattle.qrp_winner.specs.declared.fault.StrategyFault.TheVariants.{NoCi
 
 use crate::fault::StrategyFault;
 use aiger::{Circuit, GateFault};
-use proof_decisions::decisions_of;
+use proof_decisions::{CheckedProof, decisions_of};
 use qbf_core::{Formula, Quantifier};
 use qbf_strategy::circuit_of;
 use qbf_text::Source;
@@ -63,7 +63,11 @@ fn circuit_for(
         + core_size (side_of whole.now.result) formula.now whole.now.steps verified.now.core.items }
 {
     let outcome = whole.result();
-    let decisions = decisions_of(alloc, formula, whole, outcome, &verified.core)?;
+    let proof = CheckedProof {
+        formula,
+        trace: whole,
+    };
+    let decisions = decisions_of(alloc, proof, outcome, &verified.core)?;
     match circuit_of(alloc, formula.prefix(), winner(outcome), &decisions) {
         Ok(circuit) => Ok(circuit),
         Err(GateFault::NoMemory) => Err(StrategyFault::NoMemory),

@@ -9,16 +9,16 @@ use Rattle.proof_decisions.proofs.decisions.decide.Goals as goal
 
 pub returns : goal.returns
 returns g c =
-    let steps : List Inference = g.T.KeptSteps.steps c.args.trace.now in
+    let steps : List Inference = g.T.KeptSteps.steps c.args.proof.trace.now in
     let lits : List Literal = c.in_ok-lits.lits.now in
     let keeps : List Literal = c.keep.new.kept.unfinished in
     let removes : List Literal = c.remove_all.new.removed.unfinished in
-    let means : (l : Literal) → TakesOut c.reducible_in-own.result l.var ↔ IsReducible g.S.Side.side c.args.formula.now.blocks lits l =
+    let means : (l : Literal) → TakesOut c.reducible_in-own.result l.var ↔ IsReducible g.S.Side.side c.args.proof.formula.now.blocks lits l =
     subst (λ (bs : List Block). (l : Literal) → TakesOut c.reducible_in-own.result l.var ↔ IsReducible g.S.Side.side bs lits l)
     c.prefix.ensures.value (c.reducible_in-own.ensures g.S.Side.side (c.REDUCED.ensures ∙ g.met.S.Side.reduces)) in
     let just : HasJust keeps c.set_all.new.seen =
     subst (λ ls. HasJust ls c.set_all.new.seen) c.unfinished.ensures c.in_ok-set_all.ensures in
-    let removed_all : RemovesAll g.S.Side.side c.args.formula.now.blocks c.set_all.new.seen c.remove_all.new.seen [] removes
+    let removed_all : RemovesAll g.S.Side.side c.args.proof.formula.now.blocks c.set_all.new.seen c.remove_all.new.seen [] removes
     c.in_ok-origin.origin =
     subst (λ (bs : List Block). RemovesAll g.S.Side.side bs c.set_all.new.seen c.remove_all.new.seen [] removes c.in_ok-origin.origin)
     c.prefix-2.ensures.value
@@ -35,7 +35,7 @@ returns g c =
           (subst (λ (rs : List (List Literal)). AddsUnlessIdle c.keep.new.kept.whole rs keeps removes
           c.close_unless_idle.new.decisions.kept.whole c.close_unless_idle.new.decisions.removed.whole)
           (c.remove_all.ensures.whole ∙ ap (λ (x : Growing Literal). x.whole) c.begin.ensures) closed);
-      decision = decision_made g.S.Side.side c.args.formula.now c.prefix.ensures.sound steps c.requires.derives c.args.position c.requires.core
+      decision = decision_made g.S.Side.side c.args.proof.formula.now c.prefix.ensures.sound steps c.requires.derives c.args.position c.requires.core
           c.reducible_in-own.result lits keeps removes c.set_all.new.seen c.remove_all.new.seen c.in_ok-origin.origin c.in_ok-lits.ensures means
           c.in_ok-keep.ensures.left just c.in_ok-origin.ensures removed_all;
     })

@@ -10,7 +10,7 @@ decide-requires-clause-core g c =
 pub loop-i-preserved : goal.loop-i-preserved
 loop-i-preserved g c =
     let x : ℕ = c.place_at-position.result in
-    let more = decisions_more g.S.Side.side c.args.formula.now (g.T.KeptSteps.steps c.args.trace.now) c.args.core.now c.loop-i.i x
+    let more = decisions_more g.S.Side.side c.args.proof.formula.now (g.T.KeptSteps.steps c.args.proof.trace.now) c.args.core.now c.loop-i.i x
     c.loop-i.walk.decisions.kept.whole c.loop-i.walk.decisions.removed.whole c.decide.new.walk.decisions.kept.whole c.decide.new.walk.decisions.removed.whole
     (omega (arith, c.loop-i-test.true, c.loop-i.auto.i-end)) (sym (get_or_from_slice_get c.args.core.now c.loop-i.i x x c.place_at-position.ensures))
     c.loop-i.invariant.same c.loop-i.invariant.are c.in_ok-decide.ensures in

@@ -1,5 +1,5 @@
 use Rattle.proof_decisions.proofs.RemovedLiterals.{just_all, just_more}
-use Rattle.proof_decisions.proofs.removing.set_all.Goals as goal
+use Rattle.proof_decisions.proofs.literal_sets.set_all.Goals as goal
 
 pub loop-lit-preserved : goal.loop-lit-preserved
 loop-lit-preserved c =
