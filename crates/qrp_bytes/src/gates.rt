@@ -19,6 +19,7 @@ ghost use Rattle.qrp_bytes.specs.Texts.{lent_bytes};
 use crate::formatting::formula_text;
 use crate::gate_verdict::encode_checked;
 use crate::verdict::QrpVerdict;
+use crate::wanted::Wanted;
 use aiger::Circuit;
 use circuit_names::write_named_circuit;
 use gate_strategy::{GateStrategyFault, find_gate_strategy};
@@ -145,15 +146,15 @@ pub fn gates_strategy_bytes(
     alloc: Global,
     formula: &[u8],
     trace: &[u8],
-    rules: Rules,
-    binary: bool,
+    wanted: Wanted,
 ) -> Result<(bool, VecSink), Unverified>
     ensures ok { IfOk result (λ r. (found : Result (Question × Strategy) GateStrategyFault)
-        × IsGatesFound rules formula.now trace.now (Ok r.0) found × (found ≢ Err NoMemory)
-        × (r.1.bytes ≡ gates_circuit binary found)) }
+        × IsGatesFound wanted.rules formula.now trace.now (Ok r.0) found × (found ≢ Err NoMemory)
+        × (r.1.bytes ≡ gates_circuit wanted.binary found)) }
     ensures err { IfErr result (λ e.
-        IsChecked rules (lent_bytes formula.now) (lent_bytes trace.now) (Err e)) }
+        IsChecked wanted.rules (lent_bytes formula.now) (lent_bytes trace.now) (Err e)) }
 {
+    let Wanted { rules, binary } = wanted;
     match gates_strategy(alloc, formula, trace, rules) {
         Ok((question, strategy)) => {
             match named_text_of(alloc, &question, &strategy.circuit, binary) {

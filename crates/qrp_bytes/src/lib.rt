@@ -3,8 +3,8 @@
 //!
 //! - Owns: the jobs of the program on bytes in memory, with results in a struct and in buffers.
 //! - Offers: `verify_bytes`, `trim_bytes`, `list_core`, `strategy_bytes`, `format_bytes`,
-//!   `gates_verify_bytes`, `gates_clauses_bytes`, `gates_strategy_bytes`, `line_of`, `meaning_of`,
-//!   `put_text`, `put_numbers`.
+//!   `gates_verify_bytes`, `gates_clauses_bytes`, `gates_strategy_bytes`, `Wanted`, `line_of`,
+//!   `meaning_of`, `put_text`, `put_numbers`.
 //! - Proved: the headline over the bytes lent, each field of the struct, the line, the meaning, the
 //!   trimmed trace, the core, the winner's strategy and the canonical formula; and of a formula of
 //!   gates the same headline, its clauses and its winner's strategy.
@@ -24,6 +24,7 @@ mod lines;
 mod proving;
 mod strategy;
 mod verdict;
+mod wanted;
 
 pub use buffer::{put_numbers, put_text};
 pub use formatting::format_bytes;
@@ -34,3 +35,4 @@ pub use lines::{line_of, meaning_of};
 pub use proving::{list_core, numbers_at, trim_bytes, verify_bytes};
 pub use strategy::strategy_bytes;
 pub use verdict::{QrpVerdict, encode_fault, encode_nothing, encode_truth};
+pub use wanted::Wanted;

@@ -11,6 +11,7 @@ ghost use Rattle.qrp_bytes.specs.Texts.{lent_bytes};
 ghost use Rattle.qrp_bytes.specs.Strategies.{IsFound, strategy_text};
 
 use crate::proving::lent_truth;
+use crate::wanted::Wanted;
 use aiger::{Circuit, write_circuit};
 use qbf_text::{SliceSource, VecSink};
 use qrp_check::{CheckFault, Fault, Rules};
@@ -84,14 +85,14 @@ pub fn strategy_bytes(
     alloc: Global,
     formula: &[u8],
     trace: &[u8],
-    rules: Rules,
-    binary: bool,
+    wanted: Wanted,
 ) -> Result<(bool, VecSink), Fault>
     ensures ok { IfOk result (λ r. (v : Verified) × (found : Result Strategy StrategyFault)
-        × IsFound rules formula.now trace.now (Ok v) found × (r.0 ≡ v.truth)
-        × (r.1.bytes ≡ strategy_text binary found)) }
-    ensures err { IfErr result (λ e. IsChecked rules (lent_bytes formula.now) (lent_bytes trace.now) (Err e)) }
+        × IsFound wanted.rules formula.now trace.now (Ok v) found × (r.0 ≡ v.truth)
+        × (r.1.bytes ≡ strategy_text wanted.binary found)) }
+    ensures err { IfErr result (λ e. IsChecked wanted.rules (lent_bytes formula.now) (lent_bytes trace.now) (Err e)) }
 {
+    let Wanted { rules, binary } = wanted;
     match lent_strategy(alloc, formula, trace, rules) {
         Ok(strategy) => match text_of(alloc, &strategy.circuit, binary) {
             Ok(text) => Ok((strategy.truth, text)),

@@ -5,7 +5,7 @@ ghost use Rattle.qrp_bytes.specs.Gates.{ClausesReturn, GatesHeadline, GatesRetur
 ghost use Rattle.qrp_bytes.specs.Gates.{GatesStrategyReturns, HoldsClauses, HoldsGatesWinner};
 
 use qrp_bytes::{
-    QrpVerdict, encode_nothing, encode_truth, encode_unverified, gates_clauses_bytes,
+    QrpVerdict, Wanted, encode_nothing, encode_truth, encode_unverified, gates_clauses_bytes,
     gates_strategy_bytes, gates_verify_bytes, put_text,
 };
 use qrp_check::Rules;
@@ -93,7 +93,11 @@ pub extern "C" fn qrp_gates_strategy(
         trace.now buffer.old buffer.new out.new result }
     ensures kept { drop (1 + result) buffer.new ≡ drop (1 + result) buffer.old }
 {
-    match gates_strategy_bytes(alloc, formula, trace, Rules { any_pivot }, binary) {
+    let wanted = Wanted {
+        rules: Rules { any_pivot },
+        binary,
+    };
+    match gates_strategy_bytes(alloc, formula, trace, wanted) {
         Ok((truth, text)) => {
             *out = encode_truth(truth);
             put_text(buffer, text.bytes())

@@ -38,8 +38,8 @@ ghost use Rattle.qrp_bytes.specs.Texts.{TrimReturns, CoreReturns, FormatReturns}
 ghost use Rattle.qrp_bytes.specs.Verdicts.{StructHeadline, VerifyReturns};
 
 use qrp_bytes::{
-    QrpVerdict, encode_fault, encode_nothing, encode_truth, format_bytes, line_of, list_core,
-    meaning_of, put_numbers, put_text, strategy_bytes, trim_bytes, verify_bytes,
+    QrpVerdict, Wanted, encode_fault, encode_nothing, encode_truth, format_bytes, line_of,
+    list_core, meaning_of, put_numbers, put_text, strategy_bytes, trim_bytes, verify_bytes,
 };
 use qrp_check::{Fault, Rules};
 use std::alloc::Global;
@@ -201,7 +201,11 @@ pub extern "C" fn qrp_strategy(
         trace.now buffer.old buffer.new out.new result }
     ensures kept { drop (1 + result) buffer.new ≡ drop (1 + result) buffer.old }
 {
-    match strategy_bytes(alloc, formula, trace, Rules { any_pivot }, binary) {
+    let wanted = Wanted {
+        rules: Rules { any_pivot },
+        binary,
+    };
+    match strategy_bytes(alloc, formula, trace, wanted) {
         Ok((truth, text)) => {
             *out = encode_truth(truth);
             put_text(buffer, text.bytes())
