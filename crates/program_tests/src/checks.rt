@@ -9,7 +9,7 @@ use qbf_core::Formula;
 use qbf_text::{SinkFault, SliceSource, VecSink, put_bytes, put_number};
 use qdimacs::read_formula;
 use qrp::{read_trace, write_trace};
-use qrp_check::{CheckFault, Fault, Rules, Verified, check, trim, verify};
+use qrp_check::{CheckFault, Context, Fault, Rules, Verified, check, trim, verify};
 use std::alloc::Global;
 use std::process::Abort;
 use std::test::Fail;
@@ -51,7 +51,12 @@ fn check_text(
 ) -> Result<Result<Verified, CheckFault>, Fail> {
     let formula = formula_of(alloc, texts.0)?;
     let trace = trace_of(alloc, texts.1)?;
-    Ok(check(alloc, &formula, &trace, trace.sets(), trace.result(), rules))
+    let context = Context {
+        alloc,
+        formula: &formula,
+        rules,
+    };
+    Ok(check(context, &trace, trace.sets(), trace.result()))
 }
 
 /// The result for the same bytes.
@@ -139,9 +144,9 @@ fn trim_by(alloc: Global, whole: &Trace, verified: &Verified) -> Result<Trace, F
 }
 
 /// The trimmed trace of one that proves its result of a formula.
-fn trim_on(alloc: Global, rules: Rules, formula: &Formula, whole: &Trace) -> Result<Trace, Fail> {
-    match check(alloc, formula, whole, whole.sets(), whole.result(), rules) {
-        Ok(verified) => trim_by(alloc, whole, &verified),
+fn trim_on(context: Context, whole: &Trace) -> Result<Trace, Fail> {
+    match check(context, whole, whole.sets(), whole.result()) {
+        Ok(verified) => trim_by(context.alloc, whole, &verified),
         Err(_) => Err(Fail::new("the trace was refused")),
     }
 }
@@ -150,7 +155,12 @@ fn trim_on(alloc: Global, rules: Rules, formula: &Formula, whole: &Trace) -> Res
 fn trim_text(alloc: Global, rules: Rules, texts: Texts<'_>) -> Result<Trace, Fail> {
     let formula = formula_of(alloc, texts.0)?;
     let whole = trace_of(alloc, texts.1)?;
-    trim_on(alloc, rules, &formula, &whole)
+    let context = Context {
+        alloc,
+        formula: &formula,
+        rules,
+    };
+    trim_on(context, &whole)
 }
 
 #[test]

@@ -21,7 +21,7 @@ ghost use Rattle.qbf_core.specs.WrittenLiterals.{literal_of};
 use qbf_core::Quantifier;
 use qrp_bytes::{QrpVerdict, encode_fault, encode_nothing, encode_truth, numbers_at, put_numbers};
 use qrp_check::{CheckFault, Fault};
-use qrp_handle::{NOTHING, Proof, QrpProof, outcome_of, status_of};
+use qrp_handle::{NOTHING, Proof, QrpProof, WrittenStep, outcome_of, status_of};
 use qrp_rules::Rules;
 use std::alloc::Global;
 use trace_items::LentSteps;
@@ -173,7 +173,12 @@ pub extern "C" fn qrp_proof_step(
 {
     match proof.take(alloc) {
         Some(mut held) => {
-            let status = status_of(held.push_step(alloc, number, literals, antecedents));
+            let step = WrittenStep {
+                number,
+                lits: literals,
+                ants: antecedents,
+            };
+            let status = status_of(held.push_step(alloc, step));
             *proof = QrpProof::of(held);
             status
         }

@@ -1,8 +1,8 @@
 //! A formula and its proof that a caller in C hands over clause by clause and step by step.
 //!
 //! - Owns: the struct that a caller keeps, what it holds, and the statuses of what is added.
-//! - Offers: `QrpProof`, `Proof`, `AddFault`, `status_of`, `outcome_of`, `literals_of`,
-//!   `written_laws`.
+//! - Offers: `QrpProof`, `Proof`, `WrittenStep`, `AddFault`, `status_of`, `outcome_of`,
+//!   `literals_of`, `written_laws`.
 //! - Proved: what each addition changes; that the fault which refuses one stands, and that nothing
 //!   is changed then; what the verdict says of the formula and the steps that were handed over;
 //!   that their texts are read as them, with the same verdict; that the struct owns what it holds.
@@ -32,4 +32,4 @@ pub use handle::QrpProof;
 pub use laws::written_laws;
 pub use proof::Proof;
 pub use status::{NOTHING, status_of};
-pub use written::literals_of;
+pub use written::{WrittenStep, literals_of};

@@ -14,9 +14,9 @@ ghost use Rattle.qrp_handle.specs.Adding.{IsVariableFault, IsClauseFault, IsStep
 ghost use Rattle.qbf_core.specs.WrittenLiterals.{literal_of};
 
 use crate::fault::AddFault;
-use crate::written::literals_of;
+use crate::written::{WrittenStep, literals_of};
 use qbf_core::{Formula, LAST_VARIABLE, Prefix, PrefixFault, Quantifier, Var, are_bound};
-use qrp_check::{CheckFault, check};
+use qrp_check::{CheckFault, Context, check};
 use qrp_rules::Rules;
 use std::alloc::Global;
 use trace_items::{Header, Outcome, Steps, Trace};
@@ -97,33 +97,31 @@ impl Proof {
         }
     }
 
-    /// Adds the step with this number, the literals that these numbers write, and these
-    /// antecedents.
+    /// Adds a step.
     ///
     /// # Errors
     /// `Range`, `Used` and `Many` only as they say, and `NoMemory` only if an allocation failed.
     /// Nothing is changed then.
     #[tactic(auto, using(crate::proofs::ReadFaults::step_fault))]
-    pub fn push_step(
-        &mut self,
-        alloc: Global,
-        number: u64,
-        written: &[i32],
-        ants: &[u64],
-    ) -> Result<(), AddFault>
+    pub fn push_step(&mut self, alloc: Global, step: WrittenStep) -> Result<(), AddFault>
         ensures pushed { OnOk result (self.new ≡ record self.old {
           trace = record self.old.trace {
             steps = self.old.trace.steps ++ record {
-              number = number;
-              lits = map literal_of written.now;
-              ants = ants.now;
+              number = step.entry.number;
+              lits = map literal_of step.entry.lits.now;
+              ants = step.entry.ants.now;
             } ∷ [];
           };
         }) }
-        ensures refused { IfErr result
-            (IsStepFault self.old.trace.steps number written.now ants.now) }
+        ensures refused { IfErr result (IsStepFault self.old.trace.steps step.entry.number
+            step.entry.lits.now step.entry.ants.now) }
         ensures err { OnErr result (self.new ≡ self.old) }
     {
+        let WrittenStep {
+            number,
+            lits: written,
+            ants,
+        } = step;
         if ants.len() > 2 {
             return Err(AddFault::Many);
         }
@@ -159,7 +157,12 @@ impl Proof {
         // The proof reads here that the formula and the steps are well formed.
         let _greatest = self.formula.max_var();
         let _claim = self.trace.result();
-        let verified = check(alloc, &self.formula, &self.trace, &[], outcome, rules)?;
+        let context = Context {
+            alloc,
+            formula: &self.formula,
+            rules,
+        };
+        let verified = check(context, &self.trace, &[], outcome)?;
         Ok(verified.core)
     }
 

@@ -1,4 +1,4 @@
-//! Literals that are written as numbers.
+//! Literals that are written as numbers, and steps of them.
 
 ghost use Rattle.std.specs.Prelude.{◌≡◌, ℤ, List, map, Option, IfSome, IfNone, IfOk, IfErr};
 ghost use Rattle.std.specs.List.{AllByRecursion};
@@ -8,6 +8,17 @@ ghost use Rattle.qbf_core.specs.WrittenLiterals.{IsWritten, literal_of};
 use crate::fault::AddFault;
 use qbf_core::{Lit, Var};
 use std::alloc::Global;
+
+/// A step as it is handed over.
+#[derive(Clone, Copy)]
+pub struct WrittenStep<'a> {
+    /// Its number.
+    pub number: u64,
+    /// The numbers that write its literals.
+    pub lits: &'a [i32],
+    /// The numbers of its antecedents.
+    pub ants: &'a [u64],
+}
 
 /// The literal that this number writes, or `None` if it is 0 or the least of 32 bits.
 fn literal_of(written: i32) -> Option<Lit>

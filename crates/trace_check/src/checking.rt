@@ -15,9 +15,7 @@ use crate::fault::CheckFault;
 use crate::marks::{find_goal, marked_positions};
 use crate::verified::Verified;
 use core_walk::{Context, CoreFault, walk_core};
-use qbf_core::Formula;
-use qrp_rules::{Clauses, Cubes, Rules, Side};
-use std::alloc::Global;
+use qrp_rules::{Clauses, Cubes, Side};
 use trace_items::{KeptSets, KeptSteps, LentSets, LentSteps, Outcome, QuantSet, Steps};
 
 /// Whether a trace claims that its formula is true.
@@ -121,28 +119,23 @@ pub fn check_kept<T: KeptSteps, Q: KeptSets>(
 /// that does not follow, and its first fault. The later ones are looked at only if the earlier ones
 /// do not hold. `C5`, in place of any of these, if an allocation failed.
 pub fn check<T: Steps>(
-    alloc: Global,
-    formula: &Formula,
+    context: Context,
     trace: &T,
     sets: &[QuantSet],
     outcome: Outcome,
-    rules: Rules,
 ) -> Result<Verified, CheckFault>
-    ensures proves { OnOk result (Proves rules formula.now sets.now (T.steps trace.now) outcome) }
+    ensures proves { OnOk result (Proves context.entry.rules context.entry.formula.now sets.now
+        (T.steps trace.now) outcome) }
     ensures core { IfOk result (λ v. ListsCore (T.steps trace.now) v.core.items) }
     ensures rises { IfOk result (λ v. IsStrictlyIncreasing v.core.items) }
     ensures within { IfOk result
         (λ v. AllByRecursion (λ i. i < length (T.steps trace.now)) v.core.items) }
     ensures claim { IfOk result (λ v. v.truth ≡ is_sat outcome) }
-    ensures truth { IfOk result (λ v. IsTrue v.truth ↔ IsTrueFormula formula.now) }
+    ensures truth { IfOk result (λ v. IsTrue v.truth ↔ IsTrueFormula context.entry.formula.now) }
     ensures refused { IfErr result
-        (λ e. e ≢ C5 → IsFirstFault rules formula.now sets.now (T.steps trace.now) outcome e) }
+        (λ e. e ≢ C5 → IsFirstFault context.entry.rules context.entry.formula.now sets.now
+        (T.steps trace.now) outcome e) }
 {
-    let context = Context {
-        alloc,
-        formula,
-        rules,
-    };
     let kept = LentSteps(trace);
     check_kept(context, &kept, &LentSets(sets), outcome)
 }

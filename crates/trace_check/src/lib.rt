@@ -21,6 +21,7 @@ mod marks;
 mod verified;
 
 pub use checking::{check, check_kept, check_marked, is_sat};
+pub use core_walk::Context;
 pub use fault::CheckFault;
 pub use laws::{
     a_proof_shows_its_result, a_step_has_one_fault, a_trace_has_one_verdict,
