@@ -1,5 +1,5 @@
 -- One variable more, and the whole circuit.
-use Rattle.std.proofs.Common.{arith, ◌≡◌, ◌<◌, ◌≤◌, ◌+◌, ℕ, suc, Bool, true, false, cond, List, [], ◌∷◌, ◌++◌, Some, slice_get}
+use Rattle.std.proofs.Common.{arith, ◌≡◌, ◌<◌, ◌≤◌, ◌+◌, ℕ, suc, Bool, true, false, cond, List, [], ◌∷◌, ◌++◌, Some, slice_get, get_or, zero}
 use Rattle.std.proofs.Common.{refl, sym, ap, subst, ◌∙◌, length, map, inl, inr, ◌⊎◌, true≢false, nat_eq, take, Result, Ok, Err}
 use Rattle.std.specs.Prelude.{OnOk, ⊤}
 use Rattle.std.proofs.lemmas.List.Elements.{All-nil, All-push}
@@ -17,6 +17,8 @@ use Rattle.aiger.specs.Wires.{Wire, plain, value_at}
 use Rattle.qbf_strategy.specs.declared.assembling.Assembly.{Assembly}
 use Rattle.qbf_strategy.specs.declared.conditions.Work.{Work}
 use Rattle.qbf_strategy.specs.declared.entries.Entries.{Entries}
+use Rattle.qbf_strategy.specs.declared.ordered.OrderedWires.{OrderedWires}
+use Rattle.qbf_strategy.specs.Ordering.{AreOrdered}
 use Rattle.qbf_strategy.specs.Assembling.{AllBelow, Tells}
 use Rattle.qbf_strategy.specs.Chains.{Chain, Sayings, with_lists}
 use Rattle.qbf_strategy.specs.Chosen.{AddsInput, AddsOutput, AreAssembled, AreEntriesOf, AreInputs, HasChain, IsOutput, IsUnassembled}
@@ -42,6 +44,16 @@ tells_less : (ps : List (Quantifier × ℕ)) (ws more : List Wire) (run : ℕ �
     → Tells ps ws run s
 tells_less ps ws more run s tells i v w at there negative = tells i v w at (got_more ws more i w there) negative
 
+below_less : (n : ℕ) (ws more : List Wire) → AllBelow n (ws ++ more) → AllBelow n ws
+below_less n ws more all k d less =
+    let longer = length-append ws more in
+    subst (λ (w : Wire). w.var < n) (get_or_first ws more k d less) (all k d (omega (arith, longer, less)))
+  where
+    get_or_first : (ws more : List Wire) (k : ℕ) (d : Wire) → k < length ws → get_or (ws ++ more) k d ≡ get_or ws k d
+    get_or_first [] more k d less = absurd (omega (arith, less))
+    get_or_first (w ∷ ws) more zero d less = refl
+    get_or_first (w ∷ ws) more (suc k) d less = get_or_first ws more k d (omega (arith, less))
+
 conditions_wider : (mine : Quantifier) (ps : List (Quantifier
     × ℕ)) (ws more : List Wire) (kept : List (List Literal)) (b : Built) (conditions : List Wire)
     → AreConditions (scene mine ps ws kept) b conditions → AreConditions (scene mine ps (ws ++ more) kept) b conditions
@@ -49,6 +61,19 @@ conditions_wider mine ps ws more kept b conditions are k w lits here at = elim (
   | inl none ↦ inl none
   | inr is ↦ inr (record { below = is.below; value = λ run s has tells. is.value run s has (tells_less ps ws more run s tells) })
 ]
+
+ordered_wider : (mine : Quantifier) (ps : List (Quantifier × ℕ)) (ws more : List Wire) (kept : List (List Literal)) (o : OrderedWires)
+    → AreOrdered (scene mine ps ws kept) o → AreOrdered (scene mine ps (ws ++ more) kept) o
+ordered_wider mine ps ws more kept o are = record {
+  numbered = are.numbered;
+  placed = λ k n wires lits there list here.
+      let placed = are.placed k n wires lits there list here in
+      record {
+        tell = λ run s tells. placed.tell run s (tells_less ps ws more run s tells);
+        below = λ m all. placed.below m (below_less m ws more all);
+        few = placed.few;
+      };
+}
 
 output_wider : (ps : List (Quantifier × ℕ)) (ws more : List Wire) (ds : List Decision) (a b : Built) (o : ℕ × Wire) → Grows a b
     → IsOutput ps ws ds a o → IsOutput ps (ws ++ more) ds b o
@@ -132,6 +157,9 @@ module _ (mine : Quantifier) (ps : List (Quantifier × ℕ)) (kept removed : Lis
             (subst (λ (x : Work). AreConditions (scene mine ps (a.known.items
             ++ plain a.input ∷ []) kept) x.gates x.conditions.items) (sym adds.work_is)
             (conditions_wider mine ps a.known.items (plain a.input ∷ []) kept a.work.gates a.work.conditions.items are.known));
+        ordered = subst (λ (ws : List Wire). AreOrdered (scene mine ps ws kept) b.work.ordered) (sym adds.known_is)
+            (subst (λ (x : Work). AreOrdered (scene mine ps (a.known.items ++ plain a.input ∷ []) kept) x.ordered) (sym adds.work_is)
+            (ordered_wider mine ps a.known.items (plain a.input ∷ []) kept a.work.ordered are.ordered));
         inputs = subst (λ (ws : List Wire). AreInputs mine 1 ps ws) (sym adds.known_is)
             (inputs_after mine 1 ps a.known.items q v (plain a.input) at (λ e. ap plain are.input_is) are.inputs);
         input_is = adds.input_is ∙ (ap (λ (n : ℕ). n + 1) are.input_is
@@ -173,6 +201,8 @@ module _ (mine : Quantifier) (ps : List (Quantifier × ℕ)) (kept removed : Lis
             (below_grown a.work.gates b.work.gates a.known.items is.grows are.below) is.below);
         known = subst (λ (ws : List Wire). AreConditions (scene mine ps ws kept) b.work.gates b.work.conditions.items) (sym adds.known_is)
             (conditions_wider mine ps a.known.items (w ∷ []) kept b.work.gates b.work.conditions.items is.known);
+        ordered = subst (λ (ws : List Wire). AreOrdered (scene mine ps ws kept) b.work.ordered) (sym adds.known_is)
+            (ordered_wider mine ps a.known.items (w ∷ []) kept b.work.ordered adds.ordered);
         inputs = subst (λ (ws : List Wire). AreInputs mine 1 ps ws) (sym adds.known_is)
             (inputs_after mine 1 ps a.known.items q v w at (λ e. absurd (true≢false (sym my ∙ e))) are.inputs);
         input_is = adds.input_is ∙ (are.input_is
@@ -218,6 +248,7 @@ module _ (mine : Quantifier) (ps : List (Quantifier × ℕ)) (kept removed : Lis
         room = is.room;
         below = subst (λ (ws : List Wire). AllBelow (next_of a.work.gates) ws) (sym none) (All-nil (λ w. w.var < next_of a.work.gates));
         known = λ k w lits here at. inl (is.unused.unbuilt k w here);
+        ordered = is.unordered _;
         inputs = subst (λ (ws : List Wire). AreInputs mine 1 ps ws) (sym none) (no_inputs 1 ps);
         input_is = is.input_is ∙ (sym (no_next 1 ps) ∙ ap (next_input mine 1 ps) (sym none));
         outputs_are = is.no_outputs ∙ (sym (no_outputs ps) ∙ ap (outputs_of mine ps) (sym none));

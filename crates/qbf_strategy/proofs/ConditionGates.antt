@@ -18,6 +18,9 @@ use Rattle.qbf_strategy.specs.Assembling.{AllBelow, ArePlaced, Tells, all_true}
 use Rattle.aiger.specs.Wires.{turned}
 use Rattle.qbf_strategy.specs.Conditions.{AreConditions, GivesCondition, IsCondition, IsConjunction, IsConjunctionBefore, IsDecided}
 use Rattle.qbf_strategy.specs.Conditions.{IsEither, KeptFrom, Scene, fires}
+use Rattle.qbf_strategy.specs.declared.conditions.Work.{Work}
+use Rattle.qbf_strategy.specs.declared.ordered.OrderedWires.{OrderedWires}
+use Rattle.qbf_strategy.specs.Ordering.{AreBuilt, AreOrdered}
 use Rattle.qbf_strategy.proofs.ToldLiterals.{both_assoc, both_true, drop_at}
 
 -- ---- conjunctions
@@ -118,6 +121,14 @@ conditions_grown at a b conditions g are k w lits here kept = elim (are k w lits
   | inl none ↦ inl none
   | inr is ↦ inr (condition_grown at a b lits w g is)
 ]
+
+pub built_after : (at : Scene) (old now : Work) → Grows old.gates now.gates → AreConditions at now.gates now.conditions.items
+    → now.ordered ≡ old.ordered → AreBuilt at old → AreBuilt at now
+built_after at old now grows known same built = record {
+  below = below_grown old.gates now.gates at.ws grows built.below;
+  known = known;
+  ordered = subst (λ (o : OrderedWires). AreOrdered at o) (sym same) built.ordered;
+}
 
 fires_at : (at : Scene) (k : ℕ) (lits : List Literal) (b : Built) (w : Wire) → slice_get at.kept k ≡ Some lits → IsCondition at b lits w
     → (run : ℕ → Bool) (s : List Literal) → HasValues b run → Tells at.ps at.ws run s → value_at run w ≡ fires at s k

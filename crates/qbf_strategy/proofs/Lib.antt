@@ -14,4 +14,4 @@ pub mod ReadyDecisions
 pub mod PathValues
 pub mod TrimmedCircuit
 pub mod SameWins
-pub mod Reordered
+pub mod ListedWires

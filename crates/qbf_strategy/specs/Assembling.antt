@@ -8,6 +8,7 @@ use Rattle.qbf_core.specs.Members.{◌∈◌}
 use Rattle.aiger.specs.Circuits.{both}
 use Rattle.aiger.specs.Wires.{Wire, turned, value_at}
 use Rattle.qbf_completeness.specs.Setting.{are_set, is_set}
+use Rattle.qbf_strategy.specs.declared.placed.Placed.{Placed}
 use Rattle.qbf_strategy.specs.Decisions.{wanted}
 
 -- the variable v stands at the place i
@@ -50,6 +51,10 @@ TellAll ps ws ls some = (run : ℕ → Bool) (s : List Literal) → Tells ps ws 
 abbrev pub TellWithRest : List (Quantifier × ℕ) → List Wire → Quantifier → List Literal → ℕ → List Wire → Type 0
 TellWithRest ps ws mine lits i some = (run : ℕ → Bool) (s : List Literal) → Tells ps ws run s
     → both (all_true run some) (are_set (map (wanted mine) (drop i lits)) s) ≡ are_set (map (wanted mine) lits) s
+
+-- the wires of placed literals
+abbrev pub wires_of : List Placed → List Wire
+wires_of placed = map (λ p. p.wire) placed
 
 -- these wires are those of literals, as the player wants them, but for the literals from place i on; no more than there are
 pub record ArePlacedBefore (ps : List (Quantifier

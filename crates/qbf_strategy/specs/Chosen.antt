@@ -16,6 +16,7 @@ use Rattle.qbf_strategy.specs.Computing.{SeesBefore}
 use Rattle.qbf_strategy.specs.Conditions.{AreConditions, IsReady, IsUnused, Scene, fires, scene}
 use Rattle.qbf_strategy.specs.Costs.{cost_among}
 use Rattle.qbf_strategy.specs.Decisions.{Decision, decided, decisions_by}
+use Rattle.qbf_strategy.specs.Ordering.{AreOrdered}
 use Rattle.qbf_strategy.specs.declared.assembling.Assembly.{Assembly}
 
 -- the decisions that set the variable v are ready
@@ -104,6 +105,7 @@ pub record AreAssembled (mine : Quantifier) (ps : List (Quantifier × ℕ)) (kep
   pub room : a.first ≤ 2147483648
   pub below : AllBelow (next_of a.work.gates) a.known.items
   pub known : AreConditions (scene mine ps a.known.items kept) a.work.gates a.work.conditions.items
+  pub ordered : AreOrdered (scene mine ps a.known.items kept) a.work.ordered
   pub inputs : AreInputs mine 1 ps a.known.items
   pub input_is : a.input ≡ next_input mine 1 ps a.known.items
   pub outputs_are : a.outputs.items ≡ outputs_of mine ps a.known.items
@@ -128,6 +130,7 @@ pub record AddsOutput (mine : Quantifier) (ps : List (Quantifier × ℕ)) (kept 
   pub wire : Wire
   pub chosen : IsChosen (scene mine ps a.known.items kept) entries.entries.items last is_plain a.work.gates b.work.gates
       b.work.conditions.items wire
+  pub ordered : AreOrdered (scene mine ps a.known.items kept) b.work.ordered
   pub known_is : b.known.items ≡ a.known.items ++ wire ∷ []
   pub outputs_are : b.outputs.items ≡ a.outputs.items ++ (name, wire) ∷ []
   pub input_is : b.input ≡ a.input
@@ -136,6 +139,7 @@ pub record AddsOutput (mine : Quantifier) (ps : List (Quantifier × ℕ)) (kept 
 -- no wires yet, for this many inputs
 pub record IsUnassembled (inputs : ℕ) (a : Assembly) : Type 0 where
   pub unused : IsUnused a.first a.work.gates a.work.conditions.items
+  pub unordered : (at : Scene) → AreOrdered at a.work.ordered
   pub none : a.known.items ≡ []
   pub no_outputs : a.outputs.items ≡ []
   pub input_is : a.input ≡ 1

@@ -2,6 +2,7 @@
 use Rattle.std.specs.Prelude.{◌≡◌, ℕ, ◌<◌, ◌≤◌, ◌+◌, Bool, if◌then◌else◌, List, [], Some, slice_get, get_or, map, ◌⊎◌, drop, false}
 use Rattle.std.specs.Prelude.{length}
 use Rattle.qbf_core.specs.declared.quantifier.Quantifier.{Quantifier}
+use Rattle.qbf_core.specs.Blocks.{pairs}
 use Rattle.qbf_core.specs.Literal.{Literal}
 use Rattle.aiger.specs.Building.{Built, Grows, HasValues, next_of}
 use Rattle.aiger.specs.Circuits.{both}
@@ -10,6 +11,7 @@ use Rattle.qbf_completeness.specs.Setting.{are_set}
 use Rattle.qbf_strategy.specs.Decisions.{wanted}
 use Rattle.qbf_strategy.specs.Assembling.{AreAmong, Tells, all_true}
 use Rattle.qbf_strategy.specs.Costs.{cost}
+use Rattle.qbf_strategy.specs.declared.placed.Here.{Here}
 
 -- a player, the pairs of a prefix, the wires of the first of them, and the literals that decisions see
 pub record Scene : Type 0 where
@@ -20,6 +22,10 @@ pub record Scene : Type 0 where
 
 abbrev pub scene : Quantifier → List (Quantifier × ℕ) → List Wire → List (List Literal) → Scene
 scene mine ps ws kept = record { mine = mine; ps = ps; ws = ws; kept = kept }
+
+-- the scene of a task, with the wires of the first variables
+abbrev pub scene_of : Here → Scene
+scene_of here = scene here.task.mine (pairs here.task.prefix.now) here.known.now here.task.kept.now.whole
 
 -- the decision k is there, and sees only variables that have a wire
 pub record IsReady (at : Scene) (k : ℕ) : Type 0 where
@@ -81,9 +87,9 @@ pub record IsDecided (at : Scene) (k : ℕ) (value : Bool) (after : Wire) (old n
       → value_at run w ≡ (if fires at s k then value else value_at run after)
   pub few : next_of new ≤ next_of old + cost at.kept k
 
--- the wires with this one at the place k, if they reach that far
-abbrev pub KeptFrom : List Wire → List Wire → ℕ → Wire → Type 0
-KeptFrom old new k w = (i : ℕ) (x : Wire) → slice_get new i ≡ Some x → ((i ≡ k) × (x ≡ w)) ⊎ (slice_get old i ≡ Some x)
+-- items with this one at the place k, if they reach that far
+abbrev pub KeptFrom : {X : Type 0} → List X → List X → ℕ → X → Type 0
+KeptFrom {X} old new k x = (i : ℕ) (y : X) → slice_get new i ≡ Some y → ((i ≡ k) × (y ≡ x)) ⊎ (slice_get old i ≡ Some y)
 
 -- no gates, of which the first will have this number, and no conditions
 pub record IsUnused (first : ℕ) (b : Built) (conditions : List Wire) : Type 0 where

@@ -12,7 +12,6 @@ ghost use Rattle.qbf_strategy.specs.Computing.{Computes, SeesBefore, size};
 ghost use Rattle.qbf_strategy.specs.Conditions.{scene};
 ghost use Rattle.qbf_strategy.specs.Costs.{cost_all, cost_among};
 ghost use Rattle.qbf_strategy.specs.Decisions.{decisions_by};
-ghost use Rattle.qbf_strategy.specs.Ordering.{AreReordered};
 ghost use Rattle.qbf_strategy.specs.Winning.{opponent, variables_of};
 
 use crate::chosen::chosen;
@@ -20,7 +19,6 @@ use crate::conditions::Work;
 use crate::counts::Counts;
 use crate::decisions::Decisions;
 use crate::entries::Entries;
-use crate::order::{Order, reordered};
 use crate::placed::{Here, Task};
 use crate::places::Places;
 use aiger::{Circuit, GateFault, Output, Wire, trimmed};
@@ -243,25 +241,6 @@ fn whole_circuit(alloc: Global, task: &Task) -> Result<Circuit, GateFault>
     })
 }
 
-/// The literals that each decision sees, in the order in which paths or plain chains take them.
-fn ordered(
-    alloc: Global,
-    plan: &Plan,
-    places: &Places,
-    plain: bool,
-) -> Result<GrowingLists<Lit>, AllocError>
-    ensures { IfOk result (λ lists. AreReordered plan.now.kept.now.whole lists.whole) }
-{
-    let counts = Counts::new(alloc, plan.prefix, places, plan.kept)?;
-    let order = Order {
-        prefix: plan.prefix,
-        places,
-        counts: &counts,
-        plain,
-    };
-    reordered(alloc, &order, plan.kept)
-}
-
 /// The circuit of decisions, with all gates that were put, along paths or by plain chains.
 fn planned_circuit(alloc: Global, plan: &Plan, plain: bool) -> Result<Circuit, GateFault>
     requires few { length plan.now.removed.now.whole ≤ length plan.now.kept.now.whole }
@@ -274,13 +253,14 @@ fn planned_circuit(alloc: Global, plan: &Plan, plain: bool) -> Result<Circuit, G
         + size (decisions_by plan.now.mine plan.now.kept.now.whole plan.now.removed.now.whole) }
 {
     let places = Places::new(alloc, plan.prefix)?;
-    let kept = ordered(alloc, plan, &places, plain)?;
+    let counts = Counts::new(alloc, plan.prefix, &places, plan.kept)?;
     let task = Task {
         mine: plan.mine,
         prefix: plan.prefix,
         places: &places,
-        kept: &kept,
+        kept: plan.kept,
         removed: plan.removed,
+        counts: &counts,
         plain,
     };
     whole_circuit(alloc, &task)

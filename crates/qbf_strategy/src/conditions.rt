@@ -1,19 +1,20 @@
 //! Gates of conditions, each built once, and of what is decided under them.
 
-ghost use Rattle.std.specs.Prelude.{◌≡◌, ◌≢◌, ◌≤◌, ◌<◌, ◌+◌, [], IfOk, IfSome, Some, false, get_or};
+ghost use Rattle.std.specs.Prelude.{◌≡◌, ◌≢◌, ◌≤◌, ◌<◌, ◌+◌, [], IfOk, IfSome, Some, false, get_or, replicate};
 ghost use Rattle.std.specs.Prelude.{length, slice_get};
 ghost use Rattle.std.specs.Result.{IsErrOf};
-ghost use Rattle.qbf_core.specs.Blocks.{pairs};
 ghost use Rattle.aiger.specs.Building.{next_of};
 ghost use Rattle.aiger.specs.Wires.{constant};
-ghost use Rattle.qbf_strategy.specs.Assembling.{AllBelow};
-ghost use Rattle.qbf_strategy.specs.Conditions.{AreConditions, GivesCondition, IsConjunction};
-ghost use Rattle.qbf_strategy.specs.Conditions.{IsDecided, IsEither, IsReady, IsUnused, KeptFrom, scene};
+ghost use Rattle.qbf_strategy.specs.Conditions.{GivesCondition, IsDecided, IsReady};
+ghost use Rattle.qbf_strategy.specs.Conditions.{IsUnused, KeptFrom, Scene, scene_of};
 ghost use Rattle.qbf_strategy.specs.Costs.{cost};
+ghost use Rattle.qbf_strategy.specs.Ordering.{AreBuilt, AreOrdered};
 
+use crate::combining::{conjunction, either};
 use crate::entries::Entry;
+use crate::ordered::OrderedWires;
 use crate::path::Path;
-use crate::placed::{Here, put_wires};
+use crate::placed::{Here, Room, put_wires};
 use aiger::{Builder, GateFault, Wire};
 use std::alloc::{AllocError, Global};
 
@@ -24,42 +25,21 @@ pub struct Work {
     pub gates: Builder,
     /// The wire of each decision's condition, or the constant false if it was not built.
     pub conditions: Vec<Wire>,
-    /// The wires of the condition that is being built.
-    pub wires: Vec<Wire>,
+    /// The literals of the condition that is looked at.
+    pub room: Room,
+    /// The wires of the conditions that are looked at more than once.
+    pub ordered: OrderedWires,
     /// The path at whose end the wire of a variable is changed.
     pub path: Path,
     /// How many literals of conditions were looked at for paths.
     pub looked_at: usize,
 }
 
-/// The wire of the conjunction of wires.
-pub fn conjunction(gates: &mut Builder, wires: &[Wire]) -> Result<Wire, GateFault>
-    requires { AllBelow (next_of gates.old) wires.now }
-    ensures value { IfOk result (IsConjunction gates.old gates.new wires.now) }
-    ensures long { IsErrOf result GateFault.TooLong
-        → 2147483648 ≤ next_of gates.old + length wires.now }
+/// The constant false for each of so many decisions.
+fn unbuilt(alloc: Global, decisions: usize) -> Result<Vec<Wire>, AllocError>
+    ensures { IfOk result (λ v. v.items ≡ replicate decisions (constant false)) }
 {
-    let mut all = gates.constant(true);
-    for wire in wires {
-        all = gates.and(all, *wire)?;
-    }
-    Ok(all)
-}
-
-/// The wire that has this value if a condition holds, and else that of another wire.
-pub fn either(
-    gates: &mut Builder,
-    condition: Wire,
-    value: bool,
-    after: Wire,
-) -> Result<Wire, GateFault>
-    requires condition { condition.var < next_of gates.old }
-    requires after { after.var < next_of gates.old }
-    ensures value { IfOk result (IsEither gates.old gates.new condition value after) }
-    ensures long { IsErrOf result GateFault.TooLong → 2147483648 ≤ next_of gates.old }
-{
-    let wire = gates.and(condition.opposite(), after.turned(value))?;
-    Ok(wire.turned(value))
+    vec![in alloc; Wire::constant(false); decisions]
 }
 
 impl Work {
@@ -67,12 +47,17 @@ impl Work {
     pub fn new(alloc: Global, first: u32, decisions: usize) -> Result<Work, AllocError>
         requires some { 1 ≤ first }
         requires few { first ≤ 2147483648 }
-        ensures { IfOk result (λ w. IsUnused first w.gates w.conditions.items) }
+        ensures unused { IfOk result (λ w. IsUnused first w.gates w.conditions.items) }
+        ensures unordered { IfOk result (λ w. (at : Scene) → AreOrdered at w.ordered) }
     {
         Ok(Work {
             gates: Builder::new(alloc, first),
-            conditions: vec![in alloc; Wire::constant(false); decisions]?,
-            wires: Vec::new(alloc),
+            conditions: unbuilt(alloc, decisions)?,
+            room: Room {
+                placed: Vec::new(alloc),
+                wires: Vec::new(alloc),
+            },
+            ordered: OrderedWires::new(alloc, decisions)?,
             path: Path::new(alloc),
             looked_at: 0,
         })
@@ -101,38 +86,30 @@ fn keep(conditions: &mut Vec<Wire>, decision: usize, wire: Wire)
 
 /// Builds the condition of a decision.
 fn build(here: &Here, work: &mut Work, decision: usize) -> Result<Wire, GateFault>
-    requires ready { IsReady (scene here.now.task.mine (pairs here.now.task.prefix.now)
-        here.now.known.now here.now.task.kept.now.whole) decision }
-    requires below { AllBelow (next_of work.old.gates) here.now.known.now }
-    requires known { AreConditions (scene here.now.task.mine (pairs here.now.task.prefix.now)
-        here.now.known.now here.now.task.kept.now.whole) work.old.gates
-        work.old.conditions.items }
-    ensures value { IfOk result (GivesCondition (scene here.now.task.mine (pairs here.now.task.prefix.now)
-        here.now.known.now here.now.task.kept.now.whole)
+    requires ready { IsReady (scene_of here.now) decision }
+    requires built { AreBuilt (scene_of here.now) work.old }
+    ensures value { IfOk result (GivesCondition (scene_of here.now)
         decision work.old.gates work.new.gates work.new.conditions.items) }
     ensures long { IsErrOf result GateFault.TooLong → 2147483648 ≤ next_of work.old.gates
         + length (get_or here.now.task.kept.now.whole decision []) }
+    ensures ordered { work.new.ordered ≡ work.old.ordered }
 {
     let kept = here.task.kept.get(decision);
-    put_wires(here, kept, &mut work.wires)?;
-    let wire = conjunction(&mut work.gates, &work.wires)?;
+    put_wires(here, kept, &mut work.room)?;
+    let wire = conjunction(&mut work.gates, &work.room.wires)?;
     keep(&mut work.conditions, decision, wire);
     Ok(wire)
 }
 
 /// The condition of a decision, which is built if it was not.
 fn condition(here: &Here, work: &mut Work, decision: usize) -> Result<Wire, GateFault>
-    requires ready { IsReady (scene here.now.task.mine (pairs here.now.task.prefix.now)
-        here.now.known.now here.now.task.kept.now.whole) decision }
-    requires below { AllBelow (next_of work.old.gates) here.now.known.now }
-    requires known { AreConditions (scene here.now.task.mine (pairs here.now.task.prefix.now)
-        here.now.known.now here.now.task.kept.now.whole) work.old.gates
-        work.old.conditions.items }
-    ensures value { IfOk result (GivesCondition (scene here.now.task.mine (pairs here.now.task.prefix.now)
-        here.now.known.now here.now.task.kept.now.whole)
+    requires ready { IsReady (scene_of here.now) decision }
+    requires built { AreBuilt (scene_of here.now) work.old }
+    ensures value { IfOk result (GivesCondition (scene_of here.now)
         decision work.old.gates work.new.gates work.new.conditions.items) }
     ensures long { IsErrOf result GateFault.TooLong → 2147483648 ≤ next_of work.old.gates
         + length (get_or here.now.task.kept.now.whole decision []) }
+    ensures ordered { work.new.ordered ≡ work.old.ordered }
 {
     match work.built(decision) {
         Some(wire) => Ok(wire),
@@ -142,19 +119,15 @@ fn condition(here: &Here, work: &mut Work, decision: usize) -> Result<Wire, Gate
 
 /// What is decided by one entry: its value if its condition holds, and else that of another wire.
 pub fn decided(here: &Here, work: &mut Work, entry: &Entry, after: Wire) -> Result<Wire, GateFault>
-    requires ready { IsReady (scene here.now.task.mine (pairs here.now.task.prefix.now)
-        here.now.known.now here.now.task.kept.now.whole) entry.now.decision }
-    requires below { AllBelow (next_of work.old.gates) here.now.known.now }
+    requires ready { IsReady (scene_of here.now) entry.now.decision }
+    requires built { AreBuilt (scene_of here.now) work.old }
     requires after { after.var < next_of work.old.gates }
-    requires known { AreConditions (scene here.now.task.mine (pairs here.now.task.prefix.now)
-        here.now.known.now here.now.task.kept.now.whole) work.old.gates
-        work.old.conditions.items }
-    ensures value { IfOk result (IsDecided (scene here.now.task.mine (pairs here.now.task.prefix.now)
-        here.now.known.now here.now.task.kept.now.whole) entry.now.decision
+    ensures value { IfOk result (IsDecided (scene_of here.now) entry.now.decision
         entry.now.value after
         work.old.gates work.new.gates work.new.conditions.items) }
     ensures long { IsErrOf result GateFault.TooLong → 2147483648 ≤ next_of work.old.gates
         + cost here.now.task.kept.now.whole entry.now.decision }
+    ensures ordered { work.new.ordered ≡ work.old.ordered }
 {
     if after == Wire::constant(entry.value) {
         return Ok(after);

@@ -14,12 +14,13 @@
 
 mod assembling;
 mod chosen;
+mod combining;
 mod conditions;
 mod counts;
 mod decisions;
 mod entries;
 mod laws;
-mod order;
+mod ordered;
 mod path;
 mod placed;
 mod places;

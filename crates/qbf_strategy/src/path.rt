@@ -6,7 +6,7 @@ ghost use Rattle.aiger.specs.Choosing.{IsChoice};
 ghost use Rattle.qbf_strategy.specs.Assembling.{AllBelow};
 ghost use Rattle.qbf_strategy.specs.Paths.{HasTurned, IsMoved, IsSet, StandsBelow, TakesFirst};
 
-use crate::conditions::{conjunction, either};
+use crate::combining::{conjunction, either};
 use crate::placed::wire_at;
 use aiger::{Branches, Builder, GateFault, Wire};
 use std::alloc::{AllocError, Global};

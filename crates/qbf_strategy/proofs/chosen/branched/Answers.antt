@@ -25,13 +25,14 @@ loop-number-preserved c = record {
       c.args.work.now.gates c.loop-number.work.gates c.enter.new.work.gates c.loop-number.work.path c.enter.new.work.path
       c.entry-entry.result (omega arith) c.entry-entry.ensures c.before-number.ensures c.in_ok-enter.ensures.entered
       c.loop-number.invariant.chosen;
+  ordered = c.in_ok-enter.ensures.ordered;
   conditions = c.enter.ensures.conditions ∙ c.loop-number.invariant.conditions;
 }
 
-pub returns : goal.returns
-returns c =
+pub returns-clause-value : goal.returns-clause-value
+returns-clause-value c =
     chosen_all _ c.args.entries.now.entries.items c.args.last c.loop-number.number c.value_of_last-otherwise.result c.args.work.now.gates
     c.loop-number.work.gates c.leave_all.new.gates c.loop-number.work.path c.leave_all.new.self
     c.args.work.now.conditions.items c.loop-number.work.conditions.items (omega arith)
-    c.in_ok-leave_all.ensures.kept c.requires.known c.loop-number.invariant.conditions c.loop-number.invariant.chosen
+    c.in_ok-leave_all.ensures.kept c.requires.built.known c.loop-number.invariant.conditions c.loop-number.invariant.chosen
     c.in_ok-leave_all.ensures.moved

@@ -2,7 +2,7 @@ use Rattle.std.proofs.Common.{arith, rules}
 use Rattle.std.proofs.lemmas.Option.{slice_get_read}
 use Rattle.qbf_strategy.proofs.ConditionGates.{below_at, below_grown, conjunction_all, conjunction_first, conjunction_next}
 use Rattle.aiger.specs.Building.{next_of}
-use Rattle.qbf_strategy.proofs.conditions.conjunction.Goals as goal
+use Rattle.qbf_strategy.proofs.combining.conjunction.Goals as goal
 
 pub loop-wire-init : goal.loop-wire-init
 loop-wire-init c = record

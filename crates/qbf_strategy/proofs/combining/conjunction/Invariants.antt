@@ -1,5 +1,5 @@
 use Rattle.qbf_strategy.specs.Conditions.{IsConjunctionBefore}
-use Rattle.qbf_strategy.proofs.conditions.conjunction.Given as goal
+use Rattle.qbf_strategy.proofs.combining.conjunction.Given as goal
 
 abbrev pub invariant-loop-wire : goal.invariant-loop-wire
 invariant-loop-wire l = record {

@@ -1,5 +1,5 @@
 use Rattle.qbf_strategy.proofs.ConditionGates.{either_is}
-use Rattle.qbf_strategy.proofs.conditions.either.Goals as goal
+use Rattle.qbf_strategy.proofs.combining.either.Goals as goal
 
 pub returns-clause-value : goal.returns-clause-value
 returns-clause-value c =
