@@ -11,7 +11,8 @@ use Rattle.qbf_core.specs.Literal.{Literal}
 use Rattle.qbf_strategy.specs.Assembling.{IsAt}
 use Rattle.qbf_strategy.specs.Chains.{Sayings, with_lists, with_literals}
 use Rattle.qbf_strategy.specs.Computing.{size}
-use Rattle.qbf_strategy.specs.Costs.{cost, cost_all, cost_among, is_among, literals_in}
+use Rattle.qbf_strategy.specs.Costs.{cost, cost_all, cost_among, is_among}
+use Rattle.lists.specs.Lists.{count_items}
 use Rattle.qbf_strategy.specs.Decisions.{decisions_by, wanted}
 use Rattle.qbf_strategy.proofs.ChainedEntries.{once}
 use Rattle.aiger.proofs.TrimmedGates.{take_next}
@@ -135,7 +136,7 @@ cost_is mine kept removed few =
     omega (arith, all)
 
 pub count_is : (mine : Quantifier) (kept removed : List (List Literal)) → length removed ≤ length kept
-    → length removed + literals_in removed ≤ size (decisions_by mine kept removed)
+    → length removed + count_items removed ≤ size (decisions_by mine kept removed)
 count_is mine [] [] few = omega arith
 count_is mine (ls ∷ kept) [] few = omega arith
 count_is mine [] (r ∷ removed) few = absurd (omega arith)
@@ -163,33 +164,33 @@ list_too_long lists k lits old now at few (inl many) = let count = list_count li
 list_too_long lists k lits old now at few (inr late) = inr late
 
 literals_take : (lists : List (List Literal)) (k : ℕ) → k < length lists
-    → literals_in (take (k + 1) lists) ≡ literals_in (take k lists) + length (get_or lists k [])
+    → count_items (take (k + 1) lists) ≡ count_items (take k lists) + length (get_or lists k [])
 literals_take lists k less = rw (add-one) (from lists k less)
   where
     from : (lists : List (List Literal)) (k : ℕ) → k < length lists
-        → literals_in (take (suc k) lists) ≡ literals_in (take k lists) + length (get_or lists k [])
+        → count_items (take (suc k) lists) ≡ count_items (take k lists) + length (get_or lists k [])
     from [] k less = absurd (omega arith)
     from (ls ∷ lists) zero less = omega arith
     from (ls ∷ lists) (suc k) less = let rest = from lists k (omega arith) in omega (arith, rest)
 
-literals_within : (lists : List (List Literal)) (k : ℕ) → literals_in (take k lists) ≤ literals_in lists
+literals_within : (lists : List (List Literal)) (k : ℕ) → count_items (take k lists) ≤ count_items lists
 literals_within [] zero = omega arith
 literals_within [] (suc k) = omega arith
 literals_within (ls ∷ lists) zero = omega arith
 literals_within (ls ∷ lists) (suc k) = let rest = literals_within lists k in omega (arith, rest)
 
-pub lists_count : (lists : List (List Literal)) (k now new : ℕ) → k < length lists → now ≤ literals_in (take k lists)
-    → new ≤ now + length (get_or lists k []) → new ≤ literals_in (take (k + 1) lists)
-lists_count lists k now new less count one = let e = literals_take lists k less in omega (arith, e, count, one)
+pub lists_count : (lists : List (List Literal)) (room k now new : ℕ) → k < length lists → now ≤ room + count_items (take k lists)
+    → new ≤ now + length (get_or lists k []) → new ≤ room + count_items (take (k + 1) lists)
+lists_count lists room k now new less count one = let e = literals_take lists k less in omega (arith, e, count, one)
 
-pub lists_too_long : (lists : List (List Literal)) (k now : ℕ) → k < length lists → now ≤ literals_in (take k lists)
+pub lists_too_long : (lists : List (List Literal)) (room k now : ℕ) → k < length lists → now ≤ room + count_items (take k lists)
     → (4294967295 ≤ now + length (get_or lists k [])) ⊎ (4294967296 ≤ k)
-    → (4294967295 ≤ literals_in lists) ⊎ (4294967296 ≤ length lists)
-lists_too_long lists k now less count (inl many) =
+    → (4294967295 ≤ room + count_items lists) ⊎ (4294967296 ≤ length lists)
+lists_too_long lists room k now less count (inl many) =
     let e = literals_take lists k less in let all = literals_within lists (k + 1) in inl (omega (arith, e, count, all, many))
-lists_too_long lists k now less count (inr late) = inr (omega (arith, less, late))
+lists_too_long lists room k now less count (inr late) = inr (omega (arith, less, late))
 
 pub circuit_too_long : (mine : Quantifier) (kept removed : List (List Literal)) (inputs : ℕ) → length removed ≤ length kept
-    → (4294967295 ≤ literals_in removed) ⊎ (4294967296 ≤ length removed) → 2147483647 ≤ inputs + size (decisions_by mine kept removed)
+    → (4294967295 ≤ count_items removed + count_items removed) ⊎ (4294967296 ≤ length removed) → 2147483647 ≤ inputs + size (decisions_by mine kept removed)
 circuit_too_long mine kept removed inputs few (inl many) = let count = count_is mine kept removed few in omega (arith, count, many)
 circuit_too_long mine kept removed inputs few (inr late) = let count = count_is mine kept removed few in omega (arith, count, late)

@@ -21,8 +21,3 @@ cost_among kept vs ((k, l) ∷ said) = (if is_among l.var vs then cost kept k el
 abbrev pub cost_all : List (List Literal) → Sayings → ℕ
 cost_all kept [] = 0
 cost_all kept ((k, l) ∷ said) = cost kept k + cost_all kept said
-
--- how many literals lists have
-abbrev pub literals_in : List (List Literal) → ℕ
-literals_in [] = 0
-literals_in (ls ∷ lists) = length ls + literals_in lists
