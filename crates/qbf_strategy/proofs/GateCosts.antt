@@ -159,7 +159,7 @@ list_count lists k lits old now at few =
     let count : length (get_or lists k []) ≡ length lits = ap length (get_or_from_slice_get lists k lits [] at) in omega (arith, count, few)
 
 pub list_too_long : (lists : List (List Literal)) (k : ℕ) (lits : List Literal) (old now : ℕ) → slice_get lists k ≡ Some lits
-    → now ≤ old + length lits → (4294967295 ≤ now) ⊎ (4294967296 ≤ k) → (4294967295 ≤ old + length (get_or lists k [])) ⊎ (4294967296 ≤ k)
+    → now ≤ old + length lits → (4294967295 ≤ now) ⊎ (2147483648 ≤ k) → (4294967295 ≤ old + length (get_or lists k [])) ⊎ (2147483648 ≤ k)
 list_too_long lists k lits old now at few (inl many) = let count = list_count lists k lits old now at few in inl (omega (arith, count, many))
 list_too_long lists k lits old now at few (inr late) = inr late
 
@@ -184,13 +184,13 @@ pub lists_count : (lists : List (List Literal)) (room k now new : ℕ) → k < l
 lists_count lists room k now new less count one = let e = literals_take lists k less in omega (arith, e, count, one)
 
 pub lists_too_long : (lists : List (List Literal)) (room k now : ℕ) → k < length lists → now ≤ room + count_items (take k lists)
-    → (4294967295 ≤ now + length (get_or lists k [])) ⊎ (4294967296 ≤ k)
-    → (4294967295 ≤ room + count_items lists) ⊎ (4294967296 ≤ length lists)
+    → (4294967295 ≤ now + length (get_or lists k [])) ⊎ (2147483648 ≤ k)
+    → (4294967295 ≤ room + count_items lists) ⊎ (2147483648 ≤ length lists)
 lists_too_long lists room k now less count (inl many) =
     let e = literals_take lists k less in let all = literals_within lists (k + 1) in inl (omega (arith, e, count, all, many))
 lists_too_long lists room k now less count (inr late) = inr (omega (arith, less, late))
 
 pub circuit_too_long : (mine : Quantifier) (kept removed : List (List Literal)) (inputs : ℕ) → length removed ≤ length kept
-    → (4294967295 ≤ count_items removed + count_items removed) ⊎ (4294967296 ≤ length removed) → 2147483647 ≤ inputs + size (decisions_by mine kept removed)
+    → (4294967295 ≤ count_items removed + count_items removed) ⊎ (2147483648 ≤ length removed) → 2147483647 ≤ inputs + size (decisions_by mine kept removed)
 circuit_too_long mine kept removed inputs few (inl many) = let count = count_is mine kept removed few in omega (arith, count, many)
 circuit_too_long mine kept removed inputs few (inr late) = let count = count_is mine kept removed few in omega (arith, count, late)
