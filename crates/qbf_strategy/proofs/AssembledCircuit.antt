@@ -66,8 +66,8 @@ ordered_wider : (mine : Quantifier) (ps : List (Quantifier × ℕ)) (ws more : L
     → AreOrdered (scene mine ps ws kept) o → AreOrdered (scene mine ps (ws ++ more) kept) o
 ordered_wider mine ps ws more kept o are = record {
   numbered = are.numbered;
-  placed = λ k n wires lits there list here.
-      let placed = are.placed k n wires lits there list here in
+  placed = λ k n wires there list lits here.
+      let placed = are.placed k n wires there list lits here in
       record {
         tell = λ run s tells. placed.tell run s (tells_less ps ws more run s tells);
         below = λ m all. placed.below m (below_less m ws more all);

@@ -14,7 +14,7 @@ use Rattle.qbf_strategy.specs.Ordering.{AreOrdered, AreWiresOf, IsList}
 
 pub found : (at : Scene) (o : OrderedWires) (k n : ℕ) (wires : List Wire) → slice_get o.numbers.items k ≡ Some n → IsList o n wires
     → AreOrdered at o → AreWiresOf at k wires
-found at o k n wires there is ordered lits here = ordered.placed k n wires lits there is here
+found at o k n wires there is ordered = ordered.placed k n wires there is
 
 pub added : (at : Scene) (old new : OrderedWires) (decision number : ℕ) (wires : List Wire)
     → new.lists.whole ≡ old.lists.whole ++ wires ∷ [] → number ≡ length new.lists.whole
@@ -26,13 +26,15 @@ added at old new decision number wires is counted keeps ordered are =
         | inl (same, last) ↦ omega (arith, last, counted)
         | inr before ↦ let few = ordered.numbered k n before in omega (arith, one, few)
       ];
-      placed = λ k n some lits there list here.
+      placed = λ k n some there list lits here.
           let pushed : slice_get (old.lists.whole ++ wires ∷ []) (n - 1) ≡ Some some =
           subst (λ (ls : List (List Wire)). slice_get ls (n - 1) ≡ Some some) is list.there in
           elim (pushed_cases old.lists.whole wires (n - 1) some pushed) [
             | inl first ↦ elim (keeps k n there) [
-              | inl (same, last) ↦ absurd (let within = slice_get_within old.lists.whole (n - 1) some first in omega (arith, one, last, counted, within))
-              | inr before ↦ ordered.placed k n some lits before (record { some = list.some; there = first }) here
+              | inl (same, last) ↦ absurd
+                  (let within = slice_get_within old.lists.whole (n - 1) some first in
+                  omega (arith, one, last, counted, within))
+              | inr before ↦ ordered.placed k n some before (record { some = list.some; there = first }) lits here
             ]
             | inr (place, last) ↦ elim (keeps k n there) [
               | inl (same, _) ↦ subst (λ (ws : List Wire). ArePlaced at.ps at.ws at.mine lits ws) (sym last)
