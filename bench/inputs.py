@@ -46,14 +46,15 @@ def commented(folder: Path) -> list[list[str]]:
     return [["check", *map(str, pair)]]
 
 
-def real(_: Path) -> list[list[str]]:
-    """Checks of the largest real traces."""
+def real(job: str) -> Callable[[Path], list[list[str]]]:
+    """A job on each of the largest real traces."""
     largest = sorted(TRACES.glob("*.qrp"), key=lambda path: (-path.stat().st_size, path.name))[:MOST_TRACES]
-    return [["check", str(TRACES / f"{path.name.split('.')[0]}.qdimacs"), str(path)] for path in largest]
+    return lambda _: [[job, str(TRACES / f"{path.name.split('.')[0]}.qdimacs"), str(path)] for path in largest]
 
 
 INPUTS = {
-    "real": Input(f"`check` of the {MOST_TRACES} largest traces of tests/traces, one after the other", real),
+    "real": Input(f"`check` of the {MOST_TRACES} largest traces of tests/traces, one after the other", real("check")),
+    "trimmed": Input("`trim` of the same traces", real("trim")),
     "read": Input("`check` of steps of three literals that nothing uses: they are only read", made("check", "read", 4)),
     "reducts": Input("`check` of steps that each repeat the ten literals of the one before", made("check", "reducts", 4)),
     "chain": Input("`check` of a chain of implications: each second step is initial, and each other one a resolvent", made("check", "chain", 4)),
