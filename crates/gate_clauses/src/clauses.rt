@@ -29,7 +29,8 @@ pub(crate) fn put_two(
     ensures { OnOk result (clauses.new.whole ≡ clauses.old.whole ++ (one ∷ other ∷ []) ∷ []) }
 {
     clauses.begin();
-    clauses.extend(&[one, other])?;
+    clauses.push(one)?;
+    clauses.push(other)?;
     clauses.close()
 }
 
@@ -44,7 +45,9 @@ fn put_three(
         (clauses.new.whole ≡ clauses.old.whole ++ (one ∷ other ∷ last ∷ []) ∷ []) }
 {
     clauses.begin();
-    clauses.extend(&[one, other, last])?;
+    clauses.push(one)?;
+    clauses.push(other)?;
+    clauses.push(last)?;
     clauses.close()
 }
 
