@@ -871,7 +871,7 @@ def seconds_of(use: Use, *words: Any) -> tuple[float, str]:
 
 
 def try_large(use: Use) -> None:
-    """A large circuit of many blocks is shown and played in a small multiple of the time in which it is read and written."""
+    """A large circuit of many blocks is shown and played in a small multiple of the time in which it is read and written, and shown as it is."""
     blocks, size = 400, 150  # of inputs, and gates of each output
     gates: list[Any]
     pick, gates, outputs = random.Random(1), [], []
@@ -892,6 +892,15 @@ def try_large(use: Use) -> None:
     formula = use.write("large.qdimacs", f"p cnf {3 * blocks} 0\n{prefix}")
     least, found = seconds_of(use, TOOL, "--format", "aag", "--circuit", path, formula)
     expect("a large circuit: all gates are there", found.count("\n") == len(text), found[:100])
+    _, _, run = of_text(use.shown("--circuit", path, formula), list(map(str, inputs)))
+    for _ in range(5):
+        values = {str(variable): pick.randint(0, 1) for variable in inputs}
+        known = dict(zip(range(2, 4 * blocks + 1, 2), values.values()))
+        for wire, one, other in gates:
+            known[wire] = (known[one & ~1] ^ one & 1) & (known[other & ~1] ^ other & 1)
+        shown = run(values)
+        wanted = {str(3 * at + 3): known[wire] for at, wire in enumerate(outputs)}
+        expect("a large circuit: the expressions have its values", {label: shown[label] for label in wanted} == wanted, values)
     for name, words in ("explain-strategy", [TOOL, "--circuit", path, formula]), ("play", [PLAY, "--random", "1", "--strategy", path, formula]):
         seconds, _ = seconds_of(use, *words)
         expect(f"{name} of {len(gates)} gates: at most 4 times the seconds that it takes to write them", seconds <= 4 * least, (seconds, least))

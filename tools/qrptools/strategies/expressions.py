@@ -5,7 +5,8 @@ then it gets a name. The negation of a conjunction is written as a disjunction. 
 
 The gates are looked at once, in their order, and only their sizes are kept. The terms of an expression are made if something may follow in it:
 if a literal of a conjunction stands once more in it, or in the gates with names of which it has a literal. That is looked at when a gate gets a
-name, and before that if an expression becomes too large. Else an expression is written straight from its gates.
+name, and before that if an expression becomes too large. Else an expression is written straight from its gates. In a circuit of more than MOST
+gates, which nobody reads as a whole, it is not looked at.
 """
 
 from collections import Counter
@@ -15,6 +16,7 @@ from typing import Callable, NamedTuple, Optional, Union
 from qrptools.strategies.strategy import Strategy
 
 LARGEST = 8  # literals in an expression
+MOST = 20_000  # gates of a circuit in which something may be left out
 FALSE, TRUE = 0, 1  # as literals
 
 
@@ -108,6 +110,7 @@ def given(term: Term, known: set[int]) -> Term:
 # What an expression has: whether it is a conjunction, which literals are terms of it, and the variables of all its literals, those of the
 # terms last. One that is a literal is a conjunction.
 Look = tuple[bool, list[int], list[int]]
+UNSEEN: Look = True, [], []  # of a gate with a name that nothing looks at
 
 
 def look_of(term: Term) -> Look:
@@ -127,20 +130,43 @@ class Expressions:
         self.named: dict[int, Look] = {}  # gates with names
         self.looked: dict[int, Look] = {}  # at other gates
         self.sizes: dict[int, int] = {}  # how many literals the expression of each other gate has
-        self.make()
-        self.make_again()
+        self.uses = Counter([literal & ~1 for both in self.gates.values() for literal in both])
+        self.uses.update(literal & ~1 for literal in self.strategy.outputs.values())
+        if len(self.gates) > MOST:
+            self.make_plainly()
+        else:
+            self.make()
+            self.make_again()
+
+    def often(self) -> set[int]:
+        """The gates that are used more than once."""
+        return {gate for gate, count in self.uses.items() if count > 1}
+
+    def make_plainly(self) -> None:
+        """Finds the gates that have names. Each expression is written straight from its gates."""
+        sizes, size_of, named, often = self.sizes, self.sizes.get, self.named, self.often()
+        for gate, (one, other) in self.gates.items():
+            first, second = size_of(one & ~1, 1), size_of(other & ~1, 1)
+            while first + second > LARGEST:
+                larger = one & ~1 if first >= second else other & ~1
+                named[larger] = UNSEEN
+                del sizes[larger]
+                first, second = size_of(one & ~1, 1), size_of(other & ~1, 1)
+            if gate in often:
+                named[gate] = UNSEEN
+            else:
+                sizes[gate] = first + second
+        self.reach()
 
     def make(self) -> None:
         """Finds the gates that have names, if gates are used as often as in the circuit, and the expressions in which something follows."""
-        self.uses = Counter([literal & ~1 for both in self.gates.values() for literal in both])
-        self.uses.update(literal & ~1 for literal in self.strategy.outputs.values())
-        sizes, size_of = self.sizes, self.sizes.get
-        often = {gate for gate, count in self.uses.items() if count > 1}
+        sizes, size_of, often = self.sizes, self.sizes.get, self.often()
         for gate, (one, other) in self.gates.items():
             whole = size_of(one & ~1, 1) + size_of(other & ~1, 1)
             sizes[gate] = whole if whole <= LARGEST else self.cut(one & ~1, other & ~1)
             if gate in often:
                 self.give_name(gate)
+        self.look_at_outputs()
         self.reach()
 
     def make_again(self) -> None:
@@ -162,7 +188,14 @@ class Expressions:
                     self.give_name(gate)
                 if found is None or self.named.get(gate) != found:
                     changed.add(gate)
+        self.look_at_outputs()
         self.reach()
+
+    def look_at_outputs(self) -> None:
+        """Finds what follows in the expressions of outputs."""
+        for literal in self.strategy.outputs.values():
+            if literal & ~1 in self.sizes:
+                self.look(literal & ~1)
 
     def forget(self, gate: int) -> None:
         """Lets a gate be as if nothing were known of it, but for its size."""
@@ -331,9 +364,6 @@ class Expressions:
     def reach(self) -> None:
         """Finds the first output that needs each gate, by its place, and how often each variable is written."""
         used = [literal & ~1 for literal in self.strategy.outputs.values()]
-        for gate in used:
-            if gate in self.sizes:
-                self.look(gate)
         places = {gate: place for place, gate in reversed(list(enumerate(used)))}
         nodes, place_of = self.nodes, places.get
         for gate, both in reversed(self.gates.items()):
